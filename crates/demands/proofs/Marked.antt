@@ -1,0 +1,25 @@
+-- The marked examples hold: each row computes to its answer.
+use mathlib.Core.Path.{_≡_, refl}
+use mathlib.Core.List.{flatMap}
+use Rattle.layout.specs.Lists.{same, has, distinct, every, any}
+use Rattle.layout.specs.Scan.{firstOf, first, runOf, run}
+use Rattle.layout.specs.Bytes.{number, word, four, tagAt, tagged, chunk}
+use Rattle.layout.specs.Answers.{numberOf, placeOf, valueOr, afterRun, partOf, counted}
+use Rattle.layout.specs.Ranges.{inside, ranges, outOf, firstOut}
+use Rattle.layout.specs.Records.{bytesOf, badSecond, badByte, firstBad}
+use Rattle.layout.specs.Sdec.{firstName, laterNames, names, soundText, shares}
+use Rattle.layout.specs.Group.{headFault, ctabsOver, ctabAt, ctabTurn, cnttAt, cnttTurn, cnttsOf, ctabsOf, afterCntts, afterCtabs, contents, payload, groupSize, behindHeader, groupAt}
+use Rattle.layout.specs.Body.{groupPlace, textAt, sharing, afterContents, groupTurnAt, groupTurn, bodyRun, bodyRead, ofGroup, textOf}
+use Rattle.layout.specs.Style.{noStyle, sectionPlace, sectionTagged, sectionTurnAt, sectionTurn, sectionsRun, casmAmong, casmFound, located}
+use Rattle.layout.specs.Salvage.{cseg, front, pieces, rest, listed, judged, parts, entriesFrom, salvage}
+use Rattle.layout.specs.Plays.{bit, rootMask, chordMask, playsUnder}
+use Rattle.layout.specs.Place.{becomes, effective, bypass, shift, octaves, folded, heard, notePlaced, placed}
+use Rattle.demands.specs.Examples.{Hold, examples, listExample}
+
+pub marked : Hold examples
+unfolding same has distinct every any firstOf first runOf run number word four tagAt tagged numberOf placeOf valueOr afterRun partOf counted inside ranges outOf firstOut bytesOf badSecond badByte firstBad firstName laterNames names soundText shares headFault ctabsOver ctabAt ctabTurn cnttAt cnttTurn cnttsOf ctabsOf afterCntts afterCtabs contents payload groupSize behindHeader groupAt groupPlace textAt sharing afterContents groupTurnAt groupTurn bodyRun bodyRead ofGroup textOf cseg front pieces rest listed judged parts entriesFrom salvage bit rootMask chordMask playsUnder becomes effective bypass shift octaves folded heard notePlaced placed flatMap
+marked = (refl, (refl, (refl, (refl, (refl, (refl, (refl, (refl, (refl, (refl, (refl, (refl, (refl, (refl, (refl, (refl, (refl, (refl, (refl, (refl, (refl, (refl, (refl, (refl, (refl, (refl, (refl, (refl, (refl, (refl, (refl, (refl, (refl, tt)))))))))))))))))))))))))))))))))
+
+pub listed-file : Hold listExample
+unfolding same has distinct every any firstOf first runOf run number word four tagAt tagged numberOf placeOf valueOr afterRun partOf counted inside ranges outOf firstOut bytesOf badSecond badByte firstBad firstName laterNames names soundText shares headFault ctabsOver ctabAt ctabTurn cnttAt cnttTurn cnttsOf ctabsOf afterCntts afterCtabs contents payload groupSize behindHeader groupAt groupPlace textAt sharing afterContents groupTurnAt groupTurn bodyRun bodyRead ofGroup textOf cseg front pieces rest listed judged parts entriesFrom salvage bit rootMask chordMask playsUnder becomes effective bypass shift octaves folded heard notePlaced placed flatMap chunk noStyle sectionPlace sectionTagged sectionTurnAt sectionTurn sectionsRun casmAmong casmFound located
+listed-file = (refl, (refl, tt))
