@@ -45,10 +45,11 @@ pub record RecordsRead (body : List ℕ) (group : ℕ) (before : List Record) (r
   pub answer : r ≡ countedAll (recordsRead body group (length before))
   pub table : after ≡ lentAfter (recordsRead body group (length before)) before
 
--- a voice name as a part of the body; and where that part stands
+-- a voice name as a part of the body
 abbrev pub VoiceShown : List ℕ → ℕ → ℕ → List ℕ → Type 0
 VoiceShown body group channel part = part ≡ partOf (voiceName body group channel)
 
+-- .. and where that part stands
 abbrev pub VoiceFound : List ℕ → ℕ → ℕ → Spanned → Type 0
 VoiceFound body group channel r = r ≡ spanned (voiceSpan body group channel)
 
@@ -70,10 +71,11 @@ pub record RecordEdited (before : List ℕ) (group channel : ℕ) (new : Record)
   pub answer : r ≡ answered (edited before group channel new)
   pub body : after ≡ valueOr before (edited before group channel new)
 
--- one field byte of a record set, by value and in place
+-- one field byte of a record set, by value
 abbrev pub FieldSet : Record → ℕ → ℕ → Changed → Type 0
 FieldSet old index value r = r ≡ changed old (fieldSet old index value)
 
+-- .. and in place
 pub record FieldSetInPlace (before : Record) (index value : ℕ) (r : Answered) (after : Record) : Type 0 where
   pub answer : r ≡ answered (fieldSet before index value)
   pub held : after ≡ valueOr before (fieldSet before index value)

@@ -64,6 +64,7 @@ blank =
       second = Absent;
     }
 
+-- a record's source channel, as a number
 unfoldable pub channelOf : Record → ℕ
 channelOf r = r .source .0
 

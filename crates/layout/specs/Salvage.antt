@@ -43,6 +43,7 @@ listed p (Sound text n m) = record { bytes = take (groupSize p) p; kind = accept
 unfoldable pub judged : List ℕ → List Part
 judged p = listed p (groupAt p)
 
+-- the whole body in parts: what stands before the first CSEG, then the pieces
 unfoldable pub parts : List ℕ → List Part
 parts s = rest (front s) ++ flatMap judged (pieces s)
 
@@ -57,6 +58,7 @@ unfoldable pub entriesFrom : ℕ → List Part → List Entry
 entriesFrom i [] = []
 entriesFrom i (p ∷ ps) = record { place = i; size = length (p .bytes); kind = p .kind } ∷ entriesFrom (i + length (p .bytes)) ps
 
+-- the list of a body
 unfoldable pub salvage : List ℕ → List Entry
 salvage s = entriesFrom 0 (parts s)
 
@@ -64,6 +66,7 @@ salvage s = entriesFrom 0 (parts s)
 unfoldable pub entryNumbers : Entry → List ℕ
 entryNumbers e = e .place ∷ e .size ∷ e .kind ∷ []
 
+-- the numbers of a whole list
 unfoldable pub listNumbers : List Entry → List ℕ
 listNumbers es = flatMap entryNumbers es
 

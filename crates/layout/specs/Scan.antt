@@ -15,6 +15,7 @@ firstOf p k (suc n) = cond (p k) k (firstOf p (suc k) n)
 unfoldable pub first : (ℕ → Bool) → ℕ → ℕ → ℕ
 first p k e = firstOf p k (e - k)
 
+-- n turns from number k on
 unfoldable pub runOf : (ℕ → Turn) → ℕ → ℕ → Run
 runOf turn k zero = Ended k
 runOf turn k (suc n) = elim (turn k) [ Refused number place ↦ Stopped number place | More ↦ runOf turn (suc k) n | Done ↦ Ended k ]

@@ -7,6 +7,7 @@ use lib.ListN.{length}
 use Rattle.layout.specs.Lists.{has, distinct, every, any}
 use Rattle.layout.specs.Ranges.{_to_, inside}
 
+-- a comma, 2CH
 abbrev pub comma : ℕ
 comma = 0x2C
 

@@ -66,5 +66,6 @@ casmFound s =
     (cond (noStyle s) (refused notStyle 0)
     (afterRun (sectionsRun s) (casmAmong s)))
 
+-- the answer of the call
 unfoldable pub located : Answer Span → Located
 located a = record { number = numberOf a; place = placeOf a; tag = valueOr nothing a .start; length = valueOr nothing a .size }

@@ -29,5 +29,6 @@ voiceName s g channel = ofGroup s g (ofChannel s (standing s g) channel (λ row.
 abbrev pub voiceSpanAt : List ℕ → ℕ → Span
 voiceSpanAt s at = record { start = at + 1; size = length (trimmed (voiceBytes s at)) }
 
+-- the same question, answered by the place and length of the part
 unfoldable pub voiceSpan : List ℕ → ℕ → ℕ → Answer Span
 voiceSpan s g channel = ofGroup s g (ofChannel s (standing s g) channel (λ row. granted (voiceSpanAt s (row .at))))

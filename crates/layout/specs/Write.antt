@@ -16,9 +16,11 @@ use Rattle.layout.specs.Group.{Group}
 
 -- ---- the bytes of a group
 
+-- a Ctab: its tag, 27 and the record's bytes
 unfoldable pub ctabBytes : Record → List ℕ
 ctabBytes r = chunk (firstEdition .tag) (fileBytes r)
 
+-- a Cntt of a source channel, where there is one
 unfoldable pub cnttBytes : ℕ → SecondTable → List ℕ
 cnttBytes channel Absent = []
 cnttBytes channel (Value v) = chunk Cntt (channel ∷ v ∷ [])
@@ -28,6 +30,7 @@ unfoldable pub payloadBytes : Group → List ℕ
 payloadBytes g =
     chunk Sdec (g .text) ++ (flatMap ctabBytes (g .records) ++ flatMap (λ r. cnttBytes (channelOf r) (r .second)) (g .records))
 
+-- the whole group
 unfoldable pub groupBytes : Group → List ℕ
 groupBytes g = chunk CSEG (payloadBytes g)
 
@@ -61,6 +64,7 @@ module _ (e : Edition) where
       cond (ltb (firstBad e r) (e .held)) (Refused outOfRange (e .size * i + firstBad e r))
       (cond (ltb (recordOn rs i (channelOf r)) i) (Refused channelAgain (e .size * i)) More)
 
+  -- all records, one after the other
   unfoldable pub recordsRun : List Record → Run
   recordsRun rs = run (recordTurn rs) 0 (length rs)
 

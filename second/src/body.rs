@@ -1,0 +1,70 @@
+//! The strict body and what is asked of it. Follows "Strict body: 3; per group header cut 2,
+//! tag 6, length 2, count 12, contents, then 13" and "After the body: 16 for numbers, 15".
+
+use crate::group::{contents, group_header, Group};
+use crate::record::Record;
+use crate::refusal::{refuse, Answer};
+use crate::sdec::names;
+use crate::style::BODY_LIMIT;
+use std::collections::HashSet;
+
+pub const GROUP_LIMIT: usize = 32;
+
+/// All groups of a body.
+pub fn read_body(body: &[u8]) -> Answer<Vec<Group<'_>>> {
+    if body.len() > BODY_LIMIT {
+        return refuse(3, 0);
+    }
+    let mut groups: Vec<Group> = Vec::new();
+    let mut earlier: HashSet<&[u8]> = HashSet::new();
+    let mut place = 0;
+    while place < body.len() {
+        let found = group_header(body, place)?;
+        if groups.len() == GROUP_LIMIT {
+            return refuse(12, place);
+        }
+        let group = contents(body, found)?;
+        if names(group.text).any(|name| earlier.contains(name)) {
+            return refuse(13, place);
+        }
+        earlier.extend(names(group.text));
+        place += group.length;
+        groups.push(group);
+    }
+    Ok(groups)
+}
+
+/// The group of a number, counted from 0, or 16.
+pub fn group_of_number<'a, 'b>(groups: &'b [Group<'a>], number: u32) -> Answer<&'b Group<'a>> {
+    match groups.get(number as usize) {
+        Some(group) => Ok(group),
+        None => refuse(16, 0),
+    }
+}
+
+/// The group of a part name, or 15; names match whole, byte by byte.
+pub fn group_of_part<'a, 'b>(groups: &'b [Group<'a>], part: &[u8]) -> Answer<&'b Group<'a>> {
+    let with_part = |group: &&Group| names(group.text).any(|name| name == part);
+    match groups.iter().find(with_part) {
+        Some(group) => Ok(group),
+        None => refuse(15, 0),
+    }
+}
+
+/// Reads a group's records into a lent table; answers their count and the Sdec text.
+pub fn read_group<'a>(
+    body: &'a [u8],
+    number: u32,
+    lent: &mut [Record],
+) -> Answer<(usize, &'a [u8])> {
+    let groups = read_body(body)?;
+    let group = group_of_number(&groups, number)?;
+    let count = group.ctabs.len();
+    if count > lent.len() {
+        return refuse(14, 0);
+    }
+    for (room, ctab) in lent.iter_mut().zip(&group.ctabs) {
+        *room = ctab.record;
+    }
+    Ok((count, group.text))
+}

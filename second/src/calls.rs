@@ -1,0 +1,231 @@
+//! The program `calls`: one answer line for each script line, each from one call of the
+//! library on lent memory that starts out as a sentinel.
+
+use crate::body::{read_body, read_group};
+use crate::edit::edit;
+use crate::list::LIST_ROOM;
+use crate::place::place_note;
+use crate::plays::who_plays;
+use crate::record::{Record, FIELDS};
+use crate::refusal::Refusal;
+use crate::salvage::{salvage, Entry};
+use crate::screen::set_field;
+use crate::script::{byte, bytes, number, record, room, show_bytes, show_record, tokens};
+use crate::style::find;
+use crate::voice::voice_name;
+use crate::write::write_group;
+use std::fmt::Write as _;
+use std::io::{self, BufRead, Write};
+
+/// The verbs of the protocol, in its order.
+pub const VERBS: [&str; 10] = [
+    "find", "body", "group", "voice", "plays", "place", "write", "edit", "screen", "salvage",
+];
+
+/// The most that a line may lend.
+pub const RECORD_ROOM: usize = 32;
+pub const WRITE_ROOM: usize = 2_048;
+
+/// The sentinels of lent memory.
+const LENT_BYTE: u8 = 0xAA;
+const LENT_RECORD: Record = Record {
+    bytes: [0xEE; FIELDS],
+    second_table: None,
+};
+const LENT_ENTRY: Entry = Entry {
+    place: 7,
+    length: 7,
+    kind: 7,
+};
+
+/// Answers a whole script.
+pub fn calls(mut script: impl BufRead, mut answers: impl Write) -> io::Result<()> {
+    let mut line = Vec::new();
+    while script.read_until(b'\n', &mut line)? > 0 {
+        if line.last() == Some(&b'\n') {
+            line.pop();
+        }
+        writeln!(answers, "{}", answer(&line))?;
+        line.clear();
+    }
+    answers.flush()
+}
+
+/// The answer to one line, without its newline.
+pub fn answer(line: &[u8]) -> String {
+    tokens(line)
+        .and_then(|tokens| run(&tokens))
+        .unwrap_or_else(|| "bad".to_string())
+}
+
+/// Makes the call of a line; none where the line breaks the grammar.
+fn run(tokens: &[&[u8]]) -> Option<String> {
+    match (tokens[0], &tokens[1..]) {
+        (b"find", &[file]) => Some(run_find(&bytes(file)?)),
+        (b"body", &[body]) => Some(run_body(&bytes(body)?)),
+        (b"group", &[body, group, lent]) => Some(run_group(
+            &bytes(body)?,
+            number(group)?,
+            room(lent, RECORD_ROOM)?,
+        )),
+        (b"voice", &[body, group, channel]) => {
+            Some(run_voice(&bytes(body)?, number(group)?, byte(channel)?))
+        }
+        (b"plays", &[body, part, root, chord_type]) => Some(run_plays(
+            &bytes(body)?,
+            &bytes(part)?,
+            byte(root)?,
+            byte(chord_type)?,
+        )),
+        (b"place", &[rec, root, note]) => Some(run_place(&record(rec)?, byte(root)?, byte(note)?)),
+        (b"write", &[text, count, lent, ref records @ ..]) => run_write(
+            &bytes(text)?,
+            number(count)?,
+            room(lent, WRITE_ROOM)?,
+            records,
+        ),
+        (b"edit", &[body, group, channel, rec]) => Some(run_edit(
+            bytes(body)?,
+            number(group)?,
+            byte(channel)?,
+            &record(rec)?,
+        )),
+        (b"screen", &[rec, index, value]) => {
+            Some(run_screen(record(rec)?, number(index)?, byte(value)?))
+        }
+        (b"salvage", &[body, lent]) => Some(run_salvage(&bytes(body)?, room(lent, LIST_ROOM)?)),
+        _ => None,
+    }
+}
+
+fn refused(refusal: Refusal) -> String {
+    format!("refused {} {}", refusal.number, refusal.place)
+}
+
+/// Whether all of this lent memory still is its sentinel.
+fn kept<T: PartialEq>(lent: &[T], sentinel: T) -> &'static str {
+    if lent.iter().all(|room| *room == sentinel) {
+        "kept"
+    } else {
+        "changed"
+    }
+}
+
+fn run_find(file: &[u8]) -> String {
+    match find(file) {
+        Ok(found) => format!("ok {} {}", found.tag_place, found.body_length),
+        Err(refusal) => refused(refusal),
+    }
+}
+
+fn run_body(body: &[u8]) -> String {
+    match read_body(body) {
+        Ok(groups) => format!("ok {}", groups.len()),
+        Err(refusal) => refused(refusal),
+    }
+}
+
+fn run_group(body: &[u8], group: u32, room: usize) -> String {
+    let mut lent = vec![LENT_RECORD; room];
+    match read_group(body, group, &mut lent) {
+        Ok((count, text)) => {
+            let mut answer = format!("ok {count} {}", show_bytes(text));
+            for record in &lent[..count] {
+                let _ = write!(answer, " {}", show_record(record));
+            }
+            format!("{answer} {}", kept(&lent[count..], LENT_RECORD))
+        }
+        Err(refusal) => format!("{} {}", refused(refusal), kept(&lent, LENT_RECORD)),
+    }
+}
+
+fn run_voice(body: &[u8], group: u32, channel: u8) -> String {
+    match voice_name(body, group, channel) {
+        Ok(name) => format!("ok {}", show_bytes(name)),
+        Err(refusal) => refused(refusal),
+    }
+}
+
+fn run_plays(body: &[u8], part: &[u8], root: u8, chord_type: u8) -> String {
+    match who_plays(body, part, root, chord_type) {
+        Ok(channels) => {
+            let mut answer = "ok".to_string();
+            for channel in channels {
+                let _ = write!(answer, " {channel}");
+            }
+            answer
+        }
+        Err(refusal) => refused(refusal),
+    }
+}
+
+fn run_place(record: &Record, root: u8, note: u8) -> String {
+    match place_note(record, root, note) {
+        Ok(Some(note)) => format!("ok {note}"),
+        Ok(None) => "silent".to_string(),
+        Err(refusal) => refused(refusal),
+    }
+}
+
+fn run_write(text: &[u8], count: u32, room: usize, records: &[&[u8]]) -> Option<String> {
+    if records.len() > RECORD_ROOM {
+        return None;
+    }
+    let table: Vec<Record> = records
+        .iter()
+        .map(|token| record(token))
+        .collect::<Option<_>>()?;
+    let mut lent = vec![LENT_BYTE; room];
+    let result = match write_group(text, &table, count, &mut lent) {
+        Ok(length) => format!("ok {length}"),
+        Err(refusal) => refused(refusal),
+    };
+    Some(format!("{result} {}", show_bytes(&lent)))
+}
+
+fn run_edit(mut body: Vec<u8>, group: u32, channel: u8, record: &Record) -> String {
+    let result = match edit(&mut body, group, channel, record) {
+        Ok(()) => "ok".to_string(),
+        Err(refusal) => refused(refusal),
+    };
+    format!("{result} {}", show_bytes(&body))
+}
+
+fn run_screen(mut record: Record, index: u32, value: u8) -> String {
+    let result = match set_field(&mut record, index, value) {
+        Ok(()) => "ok".to_string(),
+        Err(refusal) => refused(refusal),
+    };
+    format!("{result} {}", show_record(&record))
+}
+
+fn run_salvage(body: &[u8], room: usize) -> String {
+    let mut lent = vec![LENT_ENTRY; room];
+    match salvage(body, &mut lent) {
+        Ok(count) => {
+            let mut answer = format!("ok {count}");
+            for entry in &lent[..count] {
+                let _ = write!(answer, " {},{},{}", entry.place, entry.length, entry.kind);
+            }
+            format!("{answer} {}", kept(&lent[count..], LENT_ENTRY))
+        }
+        Err(refusal) => format!("{} {}", refused(refusal), kept(&lent, LENT_ENTRY)),
+    }
+}
+
+#[cfg(test)]
+mod tests {
+    use super::*;
+
+    #[test]
+    fn kept_looks_at_the_memory() {
+        assert_eq!(kept(&[LENT_ENTRY; 2], LENT_ENTRY), "kept");
+        assert_eq!(kept(&[], LENT_RECORD), "kept");
+        let mut lent = [LENT_RECORD; 3];
+        lent[2].bytes[25] = 0;
+        assert_eq!(kept(&lent, LENT_RECORD), "changed");
+        lent[2] = LENT_RECORD;
+        lent[0].second_table = Some(0xEE);
+        assert_eq!(kept(&lent, LENT_RECORD), "changed");
+    }
+}

@@ -1,0 +1,355 @@
+//! The catalogue of bodies: faults in the first, a middle and the last group, refusals that
+//! meet one another, limits met and passed by one, and sound bodies that look damaged.
+
+use crate::bytes::{CNTT, CSEG, CTAB, SDEC};
+use crate::gen::dice::Dice;
+use crate::gen::draft::{body_bytes, cntt, ctab, Chunk, Draft};
+use crate::gen::faults::{further, long_text, principal, text_of_256, Fault};
+use crate::gen::sound::{full_group, plain, records, small_group, text_of_length, CNTT_VALUES};
+use crate::gen::spell::spell_parts;
+use crate::style::BODY_LIMIT;
+use crate::write::{chunk, group_bytes};
+use std::collections::HashSet;
+
+/// The bodies that each verb on a body goes through, the most telling first.
+pub struct Bodies {
+    /// One body for each principal fault, at turning positions.
+    pub faults: Vec<Vec<u8>>,
+    /// The principal faults at the other two positions.
+    pub moved: Vec<Vec<u8>>,
+    /// More faults of the same kinds.
+    pub further: Vec<Vec<u8>>,
+    pub meetings: Vec<Vec<u8>>,
+    pub limits: Vec<Vec<u8>>,
+    pub looks: Vec<Vec<u8>>,
+}
+
+pub fn bodies(dice: &mut Dice) -> Bodies {
+    let principal = principal();
+    let faults = pass(dice, &principal, 0);
+    let mut moved = pass(dice, &principal, 1);
+    moved.extend(pass(dice, &principal, 2));
+    Bodies {
+        faults,
+        moved,
+        further: pass(dice, &further(), 0),
+        meetings: meetings(),
+        limits: limits(dice),
+        looks: looks(dice),
+    }
+}
+
+/// One body for each fault; three passes put it in every group and at every spot.
+fn pass(dice: &mut Dice, faults: &[Fault], pass: usize) -> Vec<Vec<u8>> {
+    faults
+        .iter()
+        .enumerate()
+        .map(|(number, fault)| faulty_body(dice, fault, number + pass, number / 3 + pass))
+        .collect()
+}
+
+/// A body of three groups with a fault in the first, middle or last one, at a spot of it.
+fn faulty_body(dice: &mut Dice, fault: &Fault, group: usize, spot: usize) -> Vec<u8> {
+    let mut used = HashSet::new();
+    let mut groups: Vec<Draft> = (0..3).map(|_| small_group(dice, &mut used)).collect();
+    groups[group % 3] = full_group(dice, &mut used);
+    fault(&mut groups[group % 3], spot % 3);
+    body_bytes(&groups)
+}
+
+/// A sound group of plain records with these channels, each with a Cntt.
+fn channels(text: &str, channels: &[u8]) -> Draft {
+    let records: Vec<_> = channels
+        .iter()
+        .map(|&channel| {
+            let mut record = plain(channel);
+            record.second_table = Some(0x81);
+            record
+        })
+        .collect();
+    Draft::new(text.as_bytes(), &records)
+}
+
+/// One group of nothing but an Sdec.
+fn named(text: &str) -> Vec<u8> {
+    group_bytes(text.as_bytes(), &[])
+}
+
+/// So many groups of one name each.
+fn many(count: usize) -> Vec<u8> {
+    (0..count)
+        .flat_map(|number| named(&format!("Part {number}")))
+        .collect()
+}
+
+/// Bodies where two refusals apply at once, for each adjacent pair in document 01's order.
+fn meetings() -> Vec<Vec<u8>> {
+    let mut list = vec![
+        b"XSEG\0\0\0".to_vec(),
+        b"CSEG\0\0\0".to_vec(),
+        b"XSEG\xFF\xFF\xFF\xFF".to_vec(),
+        [named("A"), b"XSEG\0\0\0\0".to_vec(), named("A")].concat(),
+        [named("A"), named("A"), b"XSEG\0\0\0\0".to_vec()].concat(),
+        [named("A"), named("A"), b"C".to_vec()].concat(),
+    ];
+    list.extend(count_meetings());
+    list.extend(child_meetings());
+    list.extend(record_meetings());
+    list.extend(name_meetings());
+    list
+}
+
+/// The 33rd group: its header before 12, 12 before its contents and before 13.
+fn count_meetings() -> Vec<Vec<u8>> {
+    let after = |last: &[u8]| [many(32), last.to_vec()].concat();
+    vec![
+        after(b"CSEG\0\0\0"),
+        after(b"C"),
+        after(b"XSEG\0\0\0\0"),
+        after(b"CSEG\0\0\0\x01"),
+        after(b"CSEG\xFF\xFF\xFF\xF8"),
+        after(b"CSEG\0\0\0\0"),
+        after(&chunk(CSEG, b"Sdec")),
+        after(&chunk(CSEG, &chunk(SDEC, b","))),
+        after(&named("Part 0")),
+        [many(31), named("Part 0"), named("Late")].concat(),
+        [many(31), b"CSEG\0\0\0\0".to_vec(), named("Late")].concat(),
+    ]
+}
+
+/// In one child: header cut, tag, length past the group, own length, then the rest.
+fn child_meetings() -> Vec<Vec<u8>> {
+    let inside = |child: &[u8]| chunk(CSEG, &[chunk(SDEC, b"A"), child.to_vec()].concat());
+    let bad = |length: usize| vec![0xFF; length];
+    let past = |tag, length: u32, held: usize| {
+        let mut bytes = Chunk::new(tag, &bad(held));
+        bytes.declared = Some(length);
+        bytes.bytes()
+    };
+    vec![
+        inside(b"Xtab\0\0\0"),
+        inside(b"Xtab\xFF\xFF\xFF\xFF"),
+        inside(&past(CTAB, 28, 27)),
+        inside(&past(CTAB, 27, 26)),
+        inside(&past(CNTT, 3, 2)),
+        inside(&past(CNTT, 2, 1)),
+        inside(&chunk(CTAB, &bad(26))),
+        inside(&chunk(CTAB, &bad(28))),
+        inside(&chunk(CNTT, &bad(3))),
+        inside(&chunk(CNTT, &bad(2))),
+        chunk(CSEG, &past(SDEC, 256, 255)),
+        chunk(CSEG, &past(SDEC, 1, 0)),
+        chunk(CSEG, b"Xdec\0\0\0"),
+        chunk(CSEG, b"Xdec\xFF\xFF\xFF\xFF"),
+        chunk(CSEG, &[chunk(SDEC, b","), b"Xtab".to_vec()].concat()),
+        [inside(&past(CTAB, 27, 26)), named("B"), named("C")].concat(),
+    ]
+}
+
+/// Between children and inside one: 9 before 10 before 11, an earlier child before a later.
+/// The group's children are an Sdec, Ctabs of channels 5, 2 and 9 (1-3), their Cntts (4-6).
+fn record_meetings() -> Vec<Vec<u8>> {
+    let sound = channels("A", &[5, 2, 9]);
+    let set = |changes: &[(usize, usize, u8)]| {
+        let mut group = sound.clone();
+        for &(child, index, value) in changes {
+            group.children[child].payload[index] = value;
+        }
+        group.bytes()
+    };
+    let mut list = vec![
+        set(&[(2, 0, 5), (2, 25, 6)]),
+        set(&[(2, 0, 5), (3, 9, 0)]),
+        set(&[(1, 9, 0), (2, 0, 5)]),
+        set(&[(1, 24, 0x80), (1, 11, 0x10)]),
+        set(&[(1, 26, 1), (2, 0, 0x10)]),
+        set(&[(5, 0, 0x10), (5, 1, 0x05)]),
+        set(&[(5, 0, 5), (5, 1, 0x05)]),
+        set(&[(5, 0, 7), (5, 1, 0x05)]),
+        set(&[(4, 0, 7), (5, 1, 0x05)]),
+        set(&[(5, 0, 5), (6, 0, 7)]),
+        set(&[(4, 0, 7), (6, 0, 2)]),
+        [set(&[(3, 25, 9)]), b"XSEG\0\0\0\0".to_vec()].concat(),
+    ];
+    for second in [5, 2, 9] {
+        let mut group = sound.clone();
+        group.children.push(cntt(second, 0x80));
+        list.push(group.bytes());
+        group.tail = b"Cnt".to_vec();
+        list.push(group.bytes());
+        group.children.swap(4, 6);
+        list.push(group.bytes());
+    }
+    let mut group = sound.clone();
+    group.children.push(ctab(&plain(5)));
+    list.push(group.bytes());
+    list
+}
+
+/// A group's own contents before 13; a name twice inside one Sdec before 13.
+fn name_meetings() -> Vec<Vec<u8>> {
+    let first = channels("Main A,Main B", &[1]).bytes();
+    let mut bad = channels("Main B", &[3]);
+    bad.children[1].payload[22] = 0x0C;
+    vec![
+        [first.clone(), bad.bytes()].concat(),
+        [first.clone(), named("Main C"), named("Main B")].concat(),
+        [first.clone(), named("Main C,Main A")].concat(),
+        [first.clone(), named("Main C"), named("Main D,Main C")].concat(),
+        [first.clone(), named("Main A,Main A")].concat(),
+        [first.clone(), named("Main A"), named("Main B")].concat(),
+        [
+            first.clone(),
+            named("Main"),
+            named("Main A "),
+            named("main a"),
+        ]
+        .concat(),
+        [first.clone(), named("Main A,Main"), named("x"), named("y")].concat(),
+        [named(" "), named("  "), named(" ")].concat(),
+        [named("B"), named("A"), named("C"), named("A"), first].concat(),
+    ]
+}
+
+/// Limits met and passed by one, short of the very long bodies.
+fn limits(dice: &mut Dice) -> Vec<Vec<u8>> {
+    let letters = |length: usize| vec![b'n'; length];
+    let mut list = vec![
+        Vec::new(),
+        group_bytes(&long_text(255), &[]),
+        group_bytes(&long_text(254), &[]),
+        group_bytes(&text_of_256(), &[]),
+        group_bytes(&letters(16), &[]),
+        group_bytes(&letters(17), &[]),
+        group_bytes(&[letters(16), b",".to_vec(), vec![b'o'; 16]].concat(), &[]),
+        group_bytes(&[b"A,".to_vec(), letters(17)].concat(), &[]),
+        group_bytes(
+            &(0x20..0x7F).filter(|&b| b != b',').collect::<Vec<u8>>()[..16],
+            &[],
+        ),
+        group_bytes(&one_byte_names(), &[]),
+        many(31),
+        many(32),
+        many(33),
+        [many(32), many(2)].concat(),
+        group_bytes(b"Main A", &records(dice, 15)),
+        group_bytes(b"Main A", &records(dice, 16)),
+        seventeen(dice, 0x10).bytes(),
+        seventeen(dice, 0x07).bytes(),
+    ];
+    for loose in 1..=8 {
+        list.push([named("Main A"), b"CSEG\0\0\0\0"[..loose].to_vec()].concat());
+        list.push(chunk(CSEG, &b"Sdec\0\0\0\0"[..loose]));
+    }
+    list
+}
+
+/// Ninety-four names of one byte each.
+fn one_byte_names() -> Vec<u8> {
+    let letters: Vec<u8> = (0x20..0x7F).filter(|&byte| byte != b',').collect();
+    letters
+        .iter()
+        .map(|&byte| [byte])
+        .collect::<Vec<_>>()
+        .join(&b',')
+}
+
+/// Sixteen Ctabs and one more of this channel.
+fn seventeen(dice: &mut Dice, channel: u8) -> Draft {
+    let mut group = Draft::new(b"Main A", &records(dice, 16));
+    let last = group.spot(CTAB, 2).unwrap_or(0);
+    group.children.insert(last + 1, ctab(&plain(channel)));
+    group
+}
+
+/// Sound bodies that hold CSEG, Ctab or great numbers where nobody should look for them.
+fn looks(dice: &mut Dice) -> Vec<Vec<u8>> {
+    let mut list: Vec<Vec<u8>> = ["CSEG", "xCSEG", "CSEGx", "CSEGCSEG", "Ctab", "A,CSEG,B"]
+        .iter()
+        .map(|text| channels(text, &[4, 1]).bytes())
+        .collect();
+    for offset in 0..5 {
+        let mut record = plain(3);
+        record.bytes[1 + offset..5 + offset].copy_from_slice(b"CSEG");
+        list.push([named("Main A"), group_bytes(b"Main B", &[record])].concat());
+    }
+    let mut record = plain(3);
+    record.bytes[1..9].copy_from_slice(b"Ctab\0\0\0\x1B");
+    list.push(group_bytes(b"Main B", &[record, plain(4)]));
+    record.bytes[13..18].copy_from_slice(b"\x03CSEG");
+    list.push([group_bytes(b"Main B", &[record]), named("Main C")].concat());
+    let text = seg_text();
+    list.push(group_bytes(&text, &[plain(0)]));
+    list.push([named("Main D"), group_bytes(&text, &[]), named("Main E")].concat());
+    list.push(b"CSECSEG\0\0\0\x09Sdec\0\0\0\x01A".to_vec());
+    list.push(
+        [
+            b"junk".to_vec(),
+            named("A"),
+            b"CSEGCSEG".to_vec(),
+            named("B"),
+        ]
+        .concat(),
+    );
+    list.push([named("A"), b"CSE".to_vec(), named("B"), b"G".to_vec()].concat());
+    list.extend(shortened(dice));
+    list
+}
+
+/// A text of 67 bytes (43H) that begins with SEG, so that its length byte makes it CSEG.
+pub fn seg_text() -> Vec<u8> {
+    [b"SEG,".to_vec(), long_text(63)].concat()
+}
+
+/// Group lengths that end between two chunks: a sound group with fewer records, and a rest.
+fn shortened(dice: &mut Dice) -> Vec<Vec<u8>> {
+    let mut list = Vec::new();
+    let group = full_group(dice, &mut HashSet::new());
+    for keep in 1..group.children.len() {
+        let mut short = group.clone();
+        let kept: usize = short.children[..keep].iter().map(Chunk::size).sum();
+        short.declared = Some(kept as u32);
+        list.push([short.bytes(), named("After")].concat());
+    }
+    list
+}
+
+/// Bodies at and past the greatest length, spelled as BYTES.
+pub fn great_bodies() -> Vec<String> {
+    let group = named("A");
+    let filled = |length: usize| spell_parts(&[(&group, 1), (&[0], length - group.len())]);
+    let one_group = |declared: u32, held: usize| {
+        let header = [CSEG, declared.to_be_bytes()].concat();
+        spell_parts(&[(&header, 1), (&[0], held)])
+    };
+    let one_text = [CSEG, 0x7FF8u32.to_be_bytes(), SDEC, 0x7FF0u32.to_be_bytes()].concat();
+    vec![
+        spell_parts(&[(&[0], BODY_LIMIT)]),
+        spell_parts(&[(&[0], BODY_LIMIT + 1)]),
+        filled(BODY_LIMIT),
+        filled(BODY_LIMIT + 1),
+        spell_parts(&[(&CSEG, 8_192)]),
+        spell_parts(&[(&CSEG, 8_192), (&[0x43], 1)]),
+        one_group(0x7FF8, 0x7FF8),
+        one_group(0x7FF9, 0x7FF8),
+        one_group(0x7FF9, 0x7FF9),
+        spell_parts(&[(&one_text, 1), (b"A", 0x7FF0)]),
+        spell_parts(&[(&many(33), 1), (&[0], BODY_LIMIT)]),
+        spell_parts(&[(&[0], 1_048_577)]),
+    ]
+}
+
+/// The longest sound body: 32 groups of a full text, 16 Ctabs and 16 Cntts.
+pub fn longest_sound(dice: &mut Dice) -> Vec<u8> {
+    let mut used = HashSet::new();
+    let mut body = Vec::new();
+    for _ in 0..32 {
+        let mut records = records(dice, 16);
+        for record in &mut records {
+            record.second_table = Some(dice.pick(&CNTT_VALUES));
+        }
+        let text = text_of_length(dice, 255, &mut used);
+        body.extend(group_bytes(&text, &records));
+    }
+    body
+}

@@ -1,0 +1,186 @@
+//! Lines that break the grammar of the protocol, some for each verb, and beside them lines
+//! that only look as if they did.
+
+use crate::gen::sound::plain;
+use crate::gen::spell::{rec, Line};
+
+/// What a verb's tokens are, by example; each alone is sound.
+fn tokens(verb: &str) -> Vec<String> {
+    let record = rec(&plain(3));
+    let group = "4353454700000009536465630000000141";
+    let words: Vec<&str> = match verb {
+        "find" | "body" => vec![group],
+        "group" => vec![group, "0", "3"],
+        "voice" => vec![group, "0", "4"],
+        "plays" => vec![group, "41", "0", "0"],
+        "place" => vec![&record, "0", "60"],
+        "write" => vec!["41", "1", "60", &record],
+        "edit" => vec![group, "0", "3", &record],
+        "screen" => vec![&record, "0", "3"],
+        _ => vec![group, "9"],
+    };
+    words.into_iter().map(str::to_string).collect()
+}
+
+/// BYTES that break the grammar, and the last few that do not.
+const BYTES: [&str; 25] = [
+    "--",
+    "-+00",
+    "00+-",
+    "00++00",
+    "+00",
+    "00+",
+    "0",
+    "000",
+    "0G",
+    "4A",
+    "FF",
+    "*3",
+    "00*",
+    "00*x",
+    "00*-1",
+    "00*+1",
+    "00*1*2",
+    "00*4294967296",
+    "00*1048578",
+    "0x00",
+    "00*1048577+00",
+    "00*0",
+    "00*00002",
+    "41*1",
+    "00+41*0",
+];
+
+/// Numbers that break the grammar, and the last few that do not.
+const NUMBERS: [&str; 12] = [
+    "-1",
+    "+1",
+    "x",
+    "1x",
+    "0x1",
+    "1.0",
+    "4294967296",
+    "18446744073709551616",
+    "-",
+    "00000000000000000000000000000000000000",
+    "00",
+    "0003",
+];
+
+/// Numbers above what a byte, a room of records, of entries or of bytes may be.
+const GREAT: [&str; 8] = [
+    "33",
+    "256",
+    "2048",
+    "2049",
+    "8192",
+    "8193",
+    "4294967295",
+    "000255",
+];
+
+/// Changes of a whole line behind its verb.
+fn line_changes(sound: &str) -> Vec<String> {
+    let (verb, rest) = sound.split_once(' ').unwrap_or((sound, ""));
+    vec![
+        verb.to_string(),
+        format!("{verb} "),
+        format!("{verb}  {rest}"),
+        format!("{verb}\t{rest}"),
+        format!("{verb} {rest} "),
+        format!("{verb} {rest} 0"),
+        format!("{verb} {rest}\t"),
+        format!("{verb} {rest}\r"),
+        sound
+            .rsplit_once(' ')
+            .map_or(verb, |(start, _)| start)
+            .to_string(),
+    ]
+}
+
+pub fn broken(verb: &str) -> Vec<Line> {
+    let sound = tokens(verb);
+    let join = |words: &[String]| format!("{verb} {}", words.join(" "));
+    let mut lines = line_changes(&join(&sound));
+    for number in 0..sound.len() {
+        let word = &sound[number];
+        let mut with = |other: String| {
+            let mut words = sound.clone();
+            words[number] = other;
+            lines.push(join(&words));
+        };
+        if word.contains(':') {
+            records(word).into_iter().for_each(&mut with);
+        } else if number == 0 || (verb == "plays" && number == 1) {
+            BYTES.iter().for_each(|token| with(token.to_string()));
+        } else {
+            NUMBERS.iter().for_each(|token| with(token.to_string()));
+            GREAT.iter().for_each(|token| with(token.to_string()));
+        }
+    }
+    if verb == "write" {
+        let record = rec(&plain(3));
+        for count in [31, 32, 33] {
+            lines.push(format!(
+                "write 41 0 60{}",
+                format!(" {record}").repeat(count)
+            ));
+        }
+    }
+    lines.into_iter().map(String::into_bytes).collect()
+}
+
+/// RECs that break the grammar, and the last that does not.
+fn records(sound: &str) -> Vec<String> {
+    let digits = &sound[..52];
+    vec![
+        digits.to_string(),
+        format!("{digits}:"),
+        format!("{digits}:8"),
+        format!("{digits}:8A"),
+        format!("{digits}:800"),
+        format!("{digits}:--"),
+        format!("{digits}-"),
+        format!("{digits}:-:0"),
+        format!("{digits}:84:2"),
+        format!("{}:-", &digits[2..]),
+        format!("{digits}00:-"),
+        format!("{}:-", digits.to_uppercase()),
+        format!("{}:-", digits.replace('f', "g")),
+        format!("{}:-", &digits[1..]),
+        "-".to_string(),
+        format!("{digits}:84"),
+    ]
+}
+
+/// Lines of no verb; they are printed where no verb is named.
+pub fn verbless() -> Vec<Line> {
+    let lines: [&[u8]; 14] = [
+        b"",
+        b" ",
+        b"\t",
+        b"-",
+        b"Find -",
+        b"BODY -",
+        b" body -",
+        b"body- -",
+        b"bodies -",
+        b"list -",
+        b"bod -",
+        b"\r",
+        b"\xFF\xFE",
+        b"\xC3\xA9 00",
+    ];
+    lines.iter().map(|line| line.to_vec()).collect()
+}
+
+/// The longest line that is read, and one character more.
+pub fn long_lines() -> Vec<Line> {
+    let of = |length: usize| {
+        let mut line = b"find 00*".to_vec();
+        line.resize(length - 1, b'0');
+        line.push(b'9');
+        line
+    };
+    vec![of(2_200_000), of(2_200_001)]
+}

@@ -1,0 +1,79 @@
+//! The catalogue of edit: sound edits, each refusal before the next, every byte at the bounds
+//! of its range, and the catalogue of bodies.
+
+use crate::gen::asks::{common_lists, over_bodies, sample, some_channel, NO_CHANNEL, NO_GROUP};
+use crate::gen::bodies::{great_bodies, Bodies};
+use crate::gen::dice::Dice;
+use crate::gen::sound::{plain, record};
+use crate::gen::spell::{body_line, rec, Line};
+use crate::record::{Record, FIELDS, RANGES};
+
+pub fn edit(dice: &mut Dice, bodies: &Bodies) -> Vec<Line> {
+    let sample = sample(dice);
+    let mut lines = edit_orders(dice, &sample);
+    for body in &great_bodies()[..4] {
+        lines.push(format!("edit {body} 0 0 {}", rec(&plain(0))).into());
+    }
+    for (index, &(low, high)) in RANGES[..FIELDS].iter().enumerate() {
+        let mut values = vec![low, high];
+        values.extend(low.checked_sub(1));
+        values.extend(high.checked_add(1));
+        for value in values {
+            let mut new = plain(4);
+            new.bytes[index] = value;
+            lines.push(edit_line(&sample, 0, 4, &new));
+        }
+    }
+    lines.extend(over_bodies(
+        dice,
+        "edit",
+        &common_lists(bodies),
+        |dice, body| {
+            let place = some_channel(dice, body);
+            let channel = place
+                .split(' ')
+                .next_back()
+                .and_then(|word| word.parse().ok());
+            let new = record(dice, channel.unwrap_or(0));
+            format!("{place} {}", rec(&new))
+        },
+    ));
+    lines
+}
+
+fn edit_line(body: &[u8], group: u64, channel: u8, new: &Record) -> Line {
+    body_line("edit", body, &format!("{group} {channel} {}", rec(new)))
+}
+
+/// Sound edits, and each refusal before the next: the body's, 16, 15, 16, 9.
+fn edit_orders(dice: &mut Dice, sample: &[u8]) -> Vec<Line> {
+    let mut lines = Vec::new();
+    let bad = |channel: u8| {
+        let mut record = plain(channel);
+        record.bytes[9] = 0;
+        record
+    };
+    for (group, channel) in [(0, 4), (0, 0), (0, 15), (2, 9)] {
+        lines.push(edit_line(sample, group, channel, &record(dice, channel)));
+        lines.push(edit_line(sample, group, channel, &plain(channel ^ 1)));
+        lines.push(edit_line(sample, group, channel, &bad(channel)));
+        lines.push(edit_line(sample, group, channel, &bad(channel ^ 1)));
+        let mut with_bad_cntt = record(dice, channel);
+        with_bad_cntt.second_table = Some(0xFF);
+        lines.push(edit_line(sample, group, channel, &with_bad_cntt));
+    }
+    for channel in NO_CHANNEL {
+        lines.push(edit_line(sample, 0, channel, &plain(channel)));
+        lines.push(edit_line(sample, 2, channel, &plain(3)));
+    }
+    lines.push(edit_line(sample, 1, 4, &bad(4)));
+    for number in NO_GROUP {
+        lines.push(edit_line(sample, number, 4, &plain(4)));
+        lines.push(edit_line(sample, number, 77, &bad(5)));
+    }
+    let damaged = &sample[..sample.len() - 1];
+    lines.push(edit_line(damaged, 99, 77, &bad(5)));
+    lines.push(edit_line(damaged, 0, 4, &plain(4)));
+    lines.push(edit_line(&[], 0, 4, &plain(4)));
+    lines
+}

@@ -1,0 +1,387 @@
+//! The random mixture: lines of a verb without end, sound ones, ones with a fault of the
+//! catalogue at some spot, ones with bytes changed, and a few that break the grammar.
+
+use crate::body::read_body;
+use crate::gen::chords::some_chord;
+use crate::gen::dice::Dice;
+use crate::gen::draft::{body_bytes, Draft};
+use crate::gen::faults::{further, principal, Fault, GREAT_LENGTHS};
+use crate::gen::sound;
+use crate::gen::spell::{rec, spell, spell_oddly, Line};
+use crate::record::{Record, FIELDS, RANGES};
+use crate::style::{BODY_LIMIT, FILE_LIMIT};
+use crate::write::group_bytes;
+use std::collections::HashSet;
+
+pub struct Mixture {
+    dice: Dice,
+    faults: Vec<Fault>,
+}
+
+impl Mixture {
+    pub fn new(dice: Dice) -> Mixture {
+        let mut faults = principal();
+        faults.extend(further());
+        Mixture { dice, faults }
+    }
+
+    /// A line of one of these verbs.
+    pub fn line(&mut self, verbs: &[&'static str]) -> Line {
+        let verb = self.dice.pick(verbs);
+        let mut line = match verb {
+            "find" => self.find(),
+            "body" => format!("body {}", self.body_token()),
+            "group" => self.group(),
+            "voice" => self.voice(),
+            "plays" => self.plays(),
+            "place" => self.place(),
+            "write" => self.write(),
+            "edit" => self.edit(),
+            "screen" => self.screen(),
+            _ => self.salvage(),
+        }
+        .into_bytes();
+        if self.dice.percent(2) {
+            self.scratch(&mut line, verb.len() + 1);
+        }
+        line
+    }
+
+    /// Changes, drops or adds a character behind the verb.
+    fn scratch(&mut self, line: &mut Line, start: usize) {
+        const LETTERS: &[u8] = b" -+*:0123456789abcdefAF\tx";
+        let place = self.dice.between(start, line.len());
+        let letter = self.dice.pick(LETTERS);
+        match self.dice.below(3) {
+            0 if place < line.len() => line[place] = letter,
+            1 if place < line.len() => drop(line.remove(place)),
+            _ => line.insert(place, letter),
+        }
+    }
+
+    fn spelled(&mut self, bytes: &[u8]) -> String {
+        if bytes.len() < 4_000 && self.dice.percent(5) {
+            return spell_oddly(&mut self.dice, bytes);
+        }
+        spell(bytes)
+    }
+
+    /// A body: sound, with a fault, with names twice, or with changed bytes.
+    fn body(&mut self) -> Vec<u8> {
+        let mut groups = sound::body(&mut self.dice);
+        match self.dice.below(100) {
+            0..=44 => (),
+            45..=69 => self.put_fault(&mut groups),
+            70..=74 => self.repeat_name(&mut groups),
+            75..=79 => {
+                self.put_fault(&mut groups);
+                self.put_fault(&mut groups);
+            }
+            _ => {
+                let mut bytes = body_bytes(&groups);
+                for _ in 0..self.dice.between(1, 3) {
+                    self.change(&mut bytes);
+                }
+                return bytes;
+            }
+        }
+        body_bytes(&groups)
+    }
+
+    fn body_token(&mut self) -> String {
+        let mut body = self.body();
+        self.fill(&mut body, BODY_LIMIT);
+        self.spelled(&body)
+    }
+
+    /// Once in a while fills up to a limit, or to one more or less.
+    fn fill(&mut self, bytes: &mut Vec<u8>, limit: usize) {
+        if self.dice.below(500) == 0 {
+            let length = limit - 1 + self.dice.below(3);
+            bytes.resize(length, 0);
+        }
+    }
+
+    /// A body that is mostly sound, for questions that come after it.
+    fn asked_body(&mut self) -> Vec<u8> {
+        let mut body = if self.dice.percent(25) {
+            self.body()
+        } else {
+            body_bytes(&sound::body(&mut self.dice))
+        };
+        self.fill(&mut body, BODY_LIMIT);
+        body
+    }
+
+    fn put_fault(&mut self, groups: &mut [Draft]) {
+        if groups.is_empty() {
+            return;
+        }
+        let number = self.dice.below(groups.len());
+        if self.dice.percent(50) {
+            groups[number] = sound::full_group(&mut self.dice, &mut HashSet::new());
+        }
+        if groups[number].children.is_empty() {
+            return;
+        }
+        let fault = self.dice.below(self.faults.len());
+        let spot = self.dice.below(3);
+        self.faults[fault](&mut groups[number], spot);
+    }
+
+    /// Gives a later group a name of an earlier one, alone or behind its own.
+    fn repeat_name(&mut self, groups: &mut [Draft]) {
+        if groups.len() < 2 {
+            return;
+        }
+        let later = self.dice.between(1, groups.len() - 1);
+        let earlier = self.dice.below(later);
+        let text = groups[earlier].children[0].payload.clone();
+        let name = text.rsplit(|&byte| byte == b',').next().unwrap_or(&text);
+        let own = &mut groups[later].children[0].payload;
+        if self.dice.percent(50) {
+            own.clear();
+        } else {
+            own.push(b',');
+        }
+        own.extend(name);
+    }
+
+    /// One change of bytes, of any kind.
+    fn change(&mut self, bytes: &mut Vec<u8>) {
+        let dice = &mut self.dice;
+        let place = dice.below(bytes.len() + 1);
+        match dice.below(9) {
+            0 => bytes.truncate(place),
+            1 => bytes.insert(place, dice.byte()),
+            2 if place < bytes.len() => drop(bytes.remove(place)),
+            3 => bytes.extend(&b"CSEG\0\0\0\x09Sdec"[..dice.between(1, 12)]),
+            4 => {
+                let tag: &[u8] = dice.pick(&[b"CSEG", b"Sdec", b"Ctab", b"Cntt"]);
+                bytes.splice(place..place, tag.iter().copied());
+            }
+            5 if place + 4 <= bytes.len() => {
+                let length = dice.pick(&GREAT_LENGTHS);
+                bytes[place..place + 4].copy_from_slice(&length.to_be_bytes());
+            }
+            _ if place < bytes.len() => {
+                let byte = bytes[place];
+                let values = [
+                    byte ^ 0x80,
+                    byte.wrapping_add(1),
+                    0,
+                    0xFF,
+                    0x43,
+                    dice.byte(),
+                ];
+                bytes[place] = dice.pick(&values);
+            }
+            _ => bytes.push(dice.byte()),
+        }
+    }
+
+    fn find(&mut self) -> String {
+        let mut body = Vec::new();
+        if self.dice.percent(30) {
+            body = self.body();
+        }
+        self.fill(&mut body, BODY_LIMIT);
+        let mut file = sound::style(&mut self.dice, &body);
+        if self.dice.percent(15) && !file.sections.is_empty() {
+            let number = self.dice.below(file.sections.len());
+            let length = self.dice.pick(&GREAT_LENGTHS) | self.dice.below(64) as u32;
+            let near = self.dice.below(40) as u32;
+            file.sections[number].declared = Some(self.dice.pick(&[length, near, near, near]));
+        }
+        let others = file.bytes().len() - file.track.payload.len();
+        self.fill(&mut file.track.payload, FILE_LIMIT - others);
+        let mut bytes = file.bytes();
+        if self.dice.percent(25) {
+            self.change(&mut bytes);
+        }
+        if self.dice.percent(5) {
+            let length = self.dice.between(1, 9);
+            bytes.extend(vec![0x4D; length]);
+        }
+        format!("find {}", self.spelled(&bytes))
+    }
+
+    /// A group number that mostly is there, and the source channels of that group.
+    fn some_group(&mut self, body: &[u8]) -> (u64, Vec<u8>) {
+        let groups = read_body(body).unwrap_or_default();
+        if groups.is_empty() || self.dice.percent(5) {
+            let count = groups.len() as u64;
+            let numbers = [count, count + 1, 0, 31, 32, 4_294_967_295];
+            return (self.dice.pick(&numbers), Vec::new());
+        }
+        let number = self.dice.below(groups.len());
+        let channels = groups[number]
+            .ctabs
+            .iter()
+            .map(|ctab| ctab.record.source_channel())
+            .collect();
+        (number as u64, channels)
+    }
+
+    fn some_channel(&mut self, channels: &[u8]) -> u8 {
+        if channels.is_empty() || self.dice.percent(8) {
+            let any = self.dice.byte();
+            return self.dice.pick(&[any & 15, any & 15, any, 16, 255]);
+        }
+        self.dice.pick(channels)
+    }
+
+    fn group(&mut self) -> String {
+        let body = self.asked_body();
+        let (number, channels) = self.some_group(&body);
+        let count = channels.len();
+        let rooms = [count, count, count + 1, count.saturating_sub(1), 16, 0, 32];
+        let room = self.dice.pick(&rooms).min(32);
+        format!("group {} {number} {room}", self.spelled(&body))
+    }
+
+    fn voice(&mut self) -> String {
+        let body = self.asked_body();
+        let (number, channels) = self.some_group(&body);
+        let channel = self.some_channel(&channels);
+        format!("voice {} {number} {channel}", self.spelled(&body))
+    }
+
+    fn plays(&mut self) -> String {
+        let body = self.asked_body();
+        let body_token = self.spelled(&body);
+        if self.dice.percent(85) {
+            return format!("plays {body_token} {}", some_chord(&mut self.dice, &body));
+        }
+        let mut part = sound::name(&mut self.dice);
+        if let Some(group) = read_body(&body).unwrap_or_default().last() {
+            part = self.dice.pick(&[&part, group.text]).to_vec();
+        }
+        if self.dice.percent(30) {
+            self.change(&mut part);
+        }
+        let any = self.dice.byte();
+        let root = self.dice.pick(&[any % 12, 11, 12, any]);
+        let chord_type = self.dice.pick(&[any % 34, 33, 34, any]);
+        format!(
+            "plays {body_token} {} {root} {chord_type}",
+            self.spelled(&part)
+        )
+    }
+
+    /// A record that is mostly sound.
+    fn record(&mut self) -> Record {
+        let channel = self.dice.below(16) as u8;
+        let mut record = sound::record(&mut self.dice, channel);
+        if self.dice.percent(10) {
+            let index = self.dice.below(FIELDS);
+            record.bytes[index] = self.some_value(index);
+        }
+        if self.dice.percent(4) {
+            record.second_table = Some(self.dice.byte());
+        }
+        record
+    }
+
+    /// A value at or beside a bound of a byte's range, or any.
+    fn some_value(&mut self, index: usize) -> u8 {
+        let (low, high) = RANGES[index];
+        let inside = self.dice.between(usize::from(low), usize::from(high)) as u8;
+        let values = [
+            low,
+            high,
+            low.wrapping_sub(1),
+            high.wrapping_add(1),
+            inside,
+            self.dice.byte(),
+        ];
+        self.dice.pick(&values)
+    }
+
+    fn place(&mut self) -> String {
+        let record = self.record();
+        let root = self.dice.below(12) as u8;
+        let note = self.dice.below(128) as u8;
+        let any = self.dice.byte();
+        let (root, note) = match self.dice.below(40) {
+            0 => (any, note),
+            1 => (root, any),
+            2 => (12, note),
+            3 => (root, 128),
+            4 => (root, any % 12),
+            5 => (root, 127 - any % 12),
+            _ => (root, note),
+        };
+        format!("place {} {root} {note}", rec(&record))
+    }
+
+    fn write(&mut self) -> String {
+        let count = self.dice.pick(&[0, 1, 1, 2, 2, 3, 4]);
+        let mut records = sound::records(&mut self.dice, count);
+        if self.dice.percent(35) && count > 0 {
+            let number = self.dice.below(count);
+            records[number] = self.record();
+            let index = self.dice.below(FIELDS);
+            records[number].bytes[index] = self.some_value(index);
+        }
+        let names = self.dice.pick(&[1, 1, 1, 2, 3]);
+        let mut text = sound::text(&mut self.dice, names, &mut HashSet::new());
+        if self.dice.percent(20) {
+            self.change(&mut text);
+        }
+        let wanted = self
+            .dice
+            .pick(&[count, count, count, count + 1, count.saturating_sub(1)]);
+        let length = group_bytes(&text, &records[..wanted.min(count)]).len();
+        let rooms = [length, length, length - 1, length + 3, self.dice.below(300)];
+        let room = self.dice.pick(&rooms).min(2_048);
+        let mut line = format!("write {} {wanted} {room}", self.spelled(&text));
+        for record in &records {
+            line.push(' ');
+            line.push_str(&rec(record));
+        }
+        line
+    }
+
+    fn edit(&mut self) -> String {
+        let body = self.asked_body();
+        let (number, channels) = self.some_group(&body);
+        let channel = self.some_channel(&channels);
+        let mut record = self.record();
+        if self.dice.percent(95) {
+            record.bytes[0] = channel;
+        }
+        let body_token = self.spelled(&body);
+        format!("edit {body_token} {number} {channel} {}", rec(&record))
+    }
+
+    fn screen(&mut self) -> String {
+        let record = self.record();
+        let index = self.dice.below(FIELDS);
+        let value = self.some_value(index);
+        let odd = self.dice.pick(&[26, 27, 255, 4_294_967_295]);
+        let index = if self.dice.percent(5) {
+            odd
+        } else {
+            index as u64
+        };
+        format!("screen {} {index} {value}", rec(&record))
+    }
+
+    /// Sound groups, damaged ones and loose bytes in a row.
+    fn salvage(&mut self) -> String {
+        let mut body = self.body();
+        for _ in 0..self.dice.below(3) {
+            match self.dice.below(4) {
+                0 => body.extend(b"CSEG"),
+                1 => body.push(self.dice.byte()),
+                2 => self.change(&mut body),
+                _ => body.extend(self.body()),
+            }
+        }
+        body.truncate(4_000);
+        self.fill(&mut body, BODY_LIMIT);
+        let room = self.dice.pick(&[40, 40, 200, 8_192, 0, 1, 2, 3, 4]);
+        format!("salvage {} {room}", self.spelled(&body))
+    }
+}

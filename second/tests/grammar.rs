@@ -1,0 +1,271 @@
+//! The grammar of the protocol: forms of BYTES, REC and numbers, lines that are `bad`, and
+//! whole scripts through `calls`.
+
+mod common;
+
+use common::{m, plain_record};
+use second::calls::{answer, calls};
+use second::script::{bytes, number, record, show_bytes, show_record};
+
+fn is(line: &str, expected: &str) {
+    assert_eq!(answer(line.as_bytes()), expected, "{line}");
+}
+
+fn run(script: &[u8]) -> String {
+    let mut answers = Vec::new();
+    calls(script, &mut answers).unwrap();
+    String::from_utf8(answers).unwrap()
+}
+
+/// BYTES that break the grammar.
+const BAD_BYTES: [&str; 29] = [
+    "",
+    "0",
+    "000",
+    "0g",
+    "FF",
+    "aB",
+    "--",
+    "-+00",
+    "00+-",
+    "+",
+    "00+",
+    "+00",
+    "00++00",
+    "*",
+    "*2",
+    "00*",
+    "00**2",
+    "00*2*3",
+    "00*a",
+    "00*-1",
+    "00* 1",
+    "00*1048578",
+    "00*1048577+00",
+    "0000*524289",
+    "00*4294967295",
+    "00*4294967296",
+    "00*99999999999999999999",
+    "0x00",
+    "00,00",
+];
+
+#[test]
+fn forms_of_bytes() {
+    assert_eq!(bytes(b"-"), Some(vec![]));
+    assert_eq!(bytes(b"4353+00*6"), Some(b"CS\0\0\0\0\0\0".to_vec()));
+    assert_eq!(bytes(b"0102*3"), Some(vec![1, 2, 1, 2, 1, 2]));
+    assert_eq!(bytes(b"ff*0"), Some(vec![]));
+    assert_eq!(bytes(b"ff*0+01*0001+02"), Some(vec![1, 2]));
+    assert_eq!(bytes(b"00*1048577").map(|held| held.len()), Some(1_048_577));
+    assert_eq!(
+        bytes(b"00*1048577+00*0").map(|held| held.len()),
+        Some(1_048_577)
+    );
+    for bad in BAD_BYTES {
+        assert_eq!(bytes(bad.as_bytes()), None, "{bad}");
+    }
+}
+
+#[test]
+fn forms_of_numbers() {
+    assert_eq!(number(b"0"), Some(0));
+    assert_eq!(number(b"4294967295"), Some(u32::MAX));
+    assert_eq!(number(b"00000000000000000000000000012"), Some(12));
+    for bad in [
+        "",
+        "4294967296",
+        "99999999999999999999999",
+        "-1",
+        "+1",
+        "1.0",
+        "0x1",
+        "1a",
+        " 1",
+    ] {
+        assert_eq!(number(bad.as_bytes()), None, "{bad}");
+    }
+}
+
+#[test]
+fn forms_of_records() {
+    let mut plain = plain_record();
+    let shown = show_record(&plain);
+    assert_eq!(shown.len(), 54);
+    assert_eq!(record(shown.as_bytes()), Some(plain));
+    plain.second_table = Some(0x8A);
+    let with_cntt = show_record(&plain);
+    assert!(with_cntt.ends_with(":8a"));
+    assert_eq!(record(with_cntt.as_bytes()), Some(plain));
+    let digits = &shown[..52];
+    for bad in [
+        String::new(),
+        "-".to_string(),
+        digits.to_string(),
+        format!("{digits}:"),
+        format!("{digits}:8"),
+        format!("{digits}:8A"),
+        format!("{digits}:8a0"),
+        format!("{digits}:-0"),
+        format!("{digits}:84:2"),
+        format!("{digits}:-:0"),
+        format!("{digits}--"),
+        format!("{}:-", &digits[2..]),
+        format!("{digits}00:-"),
+        format!("{}g:-", &digits[1..]),
+    ] {
+        assert_eq!(record(bad.as_bytes()), None, "{bad}");
+    }
+}
+
+/// Lines that break the grammar, whatever their verb.
+const BAD_LINES: [&str; 36] = [
+    "",
+    " ",
+    "body",
+    "body ",
+    "body  -",
+    " body -",
+    "body - ",
+    "body -\t",
+    "body\t-",
+    "Body -",
+    "BODY -",
+    "body - -",
+    "find",
+    "find - 0",
+    "group - 0",
+    "group - 0 33",
+    "group - 0 0 0",
+    "group - -1 0",
+    "voice - 0 256",
+    "voice - 0",
+    "plays - - 256 0",
+    "plays - - 0 256",
+    "plays - - 0",
+    "place - 0 0",
+    "write 41 0",
+    "write 41 0 2049",
+    "write - 4294967296 0",
+    "edit - 0 0",
+    "edit - 0 256 -",
+    "screen - 0 0",
+    "salvage -",
+    "salvage - 8193",
+    "list -",
+    "body 00\r",
+    "#",
+    "ok 0",
+];
+
+#[test]
+fn lines_that_are_bad() {
+    for line in BAD_LINES {
+        is(line, "bad");
+    }
+    let rec = show_record(&plain_record());
+    for line in [
+        format!("place {rec} 0 256"),
+        format!("place {rec} 256 0"),
+        format!("place {rec} 0"),
+        format!("place {rec} 0 0 0"),
+        format!("screen {rec} 0 256"),
+        format!("screen {rec} 4294967296 0"),
+        format!("write 41 0 60{}", format!(" {rec}").repeat(33)),
+        format!("write 41 0 60 {rec} -"),
+        format!("write 41 0 60 {rec} "),
+    ] {
+        is(&line, "bad");
+    }
+}
+
+#[test]
+fn lines_at_the_edge_of_the_grammar() {
+    let rec = show_record(&plain_record());
+    is("group - 4294967295 32", "refused 16 0 kept");
+    is("group - 0000 00", "refused 16 0 kept");
+    is("salvage - 8192", "ok 0 kept");
+    is("voice - 0 255", "refused 16 0");
+    is("plays - - 255 255", "refused 16 0");
+    is("plays - - 0 0", "refused 15 0");
+    is(
+        &format!("screen {rec} 4294967295 255"),
+        &format!("refused 16 0 {rec}"),
+    );
+    is(
+        &format!("write - 33 0{}", format!(" {rec}").repeat(32)),
+        "refused 16 0 -",
+    );
+    is("write - 0 2", "refused 8 0 aaaa");
+    is("write - 1 2", "refused 16 0 aaaa");
+    is(&format!("edit - 0 0 {rec}"), "refused 16 0 -");
+    is("body 00*1048577", "refused 3 0");
+    is("body 00*1048578", "bad");
+}
+
+#[test]
+fn long_lines() {
+    let line = |length: usize| {
+        let mut line = b"body 00*".to_vec();
+        line.resize(length, b'0');
+        answer(&line)
+    };
+    assert_eq!(line(2_200_000), "ok 0");
+    assert_eq!(line(2_200_001), "bad");
+}
+
+#[test]
+fn bytes_that_are_no_text_are_bad() {
+    assert_eq!(answer(b"body \xFF\xFE"), "bad");
+    assert_eq!(answer(b"\xC3\x28 -"), "bad");
+    assert_eq!(answer(b"body 00\0"), "bad");
+    assert_eq!(run(b"\xFF\nbody -\n"), "bad\nok 0\n");
+}
+
+#[test]
+fn whole_scripts() {
+    assert_eq!(run(b""), "");
+    assert_eq!(run(b"\n"), "bad\n");
+    assert_eq!(run(b"body -"), "ok 0\n");
+    assert_eq!(run(b"body -\nbody -"), "ok 0\nok 0\n");
+    assert_eq!(run(b"x\n\nbody -\n"), "bad\nbad\nok 0\n");
+}
+
+#[test]
+fn one_answer_of_each_verb() {
+    let record = plain_record();
+    let rec = show_record(&record);
+    let body = second::write::group_bytes(b"Main A", &[record]);
+    let hex = show_bytes(&body);
+    assert_eq!(body.len(), m().len() + 35);
+    is(&format!("body {hex}"), "ok 1");
+    is(
+        &format!("group {hex} 0 2"),
+        &format!("ok 1 4d61696e2041 {rec} kept"),
+    );
+    is(&format!("group {hex} 0 0"), "refused 14 0 kept");
+    is(&format!("voice {hex} 0 3"), "ok 5069616e6f");
+    is(&format!("voice {hex} 0 16"), "refused 15 0");
+    is(&format!("plays {hex} 4d61696e2041 0 0"), "ok 3");
+    is(&format!("place {rec} 5 60"), "ok 65");
+    is(
+        &format!("write 4d61696e2041 1 57 {rec}"),
+        &format!("ok 57 {hex}"),
+    );
+    is(
+        &format!("write 4d61696e2041 1 58 {rec}"),
+        &format!("ok 57 {hex}aa"),
+    );
+    is(
+        &format!("write 4d61696e2041 1 56 {rec}"),
+        &format!("refused 14 0 {}", "aa".repeat(56)),
+    );
+    is(&format!("edit {hex} 0 3 {rec}"), &format!("ok {hex}"));
+    is(
+        &format!("screen {rec} 0 15"),
+        &format!("ok 0f{}", &rec[2..]),
+    );
+    is(&format!("screen {rec} 0 16"), &format!("refused 9 0 {rec}"));
+    is(&format!("salvage {hex}00 2"), "ok 2 0,57,0 57,1,6 kept");
+    is(&format!("salvage {hex}00 1"), "refused 14 0 kept");
+}

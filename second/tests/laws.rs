@@ -1,0 +1,365 @@
+//! Laws that hold of every answer, checked on generated scripts by means of their own.
+
+mod common;
+
+use common::{entries_of, plain_record};
+use second::body::{read_body, read_group};
+use second::calls::answer;
+use second::edit::edit;
+use second::gen::dice::Dice;
+use second::gen::sound;
+use second::gen::Script;
+use second::place::place_note;
+use second::plays::who_plays;
+use second::record::Record;
+use second::script::{bytes, number, record, tokens};
+use second::style::find;
+use second::voice::voice_name;
+use second::write::write_group;
+
+/// The tokens of the lines of a verb that keep the grammar, each with its answer.
+fn answered(verb: &'static str, seed: u64, count: usize) -> Vec<(Vec<Vec<u8>>, Vec<String>)> {
+    let mut list = Vec::new();
+    for line in Script::new(seed, &[verb]).take(count) {
+        let words: Vec<String> = answer(&line).split(' ').map(str::to_string).collect();
+        if words[0] != "bad" {
+            let parts = tokens(&line).unwrap();
+            list.push((parts.iter().map(|part| part.to_vec()).collect(), words));
+        }
+    }
+    list
+}
+
+/// The bodies of generated lines, up to a size that a strict body can have.
+fn some_bodies(verb: &'static str, seed: u64, count: usize) -> Vec<Vec<u8>> {
+    answered(verb, seed, count)
+        .iter()
+        .map(|(parts, _)| bytes(&parts[1]).unwrap())
+        .filter(|body| body.len() <= 32_768)
+        .collect()
+}
+
+/// Where the groups of an accepted body stand, by their lengths alone.
+fn group_slices(body: &[u8]) -> Vec<&[u8]> {
+    let mut slices = Vec::new();
+    let mut rest = body;
+    while !rest.is_empty() {
+        let length = 8 + u32::from_be_bytes(rest[4..8].try_into().unwrap()) as usize;
+        slices.push(&rest[..length]);
+        rest = &rest[length..];
+    }
+    slices
+}
+
+const EMPTY: Record = Record {
+    bytes: [0x5A; 26],
+    second_table: Some(0x5A),
+};
+
+#[test]
+fn reading_and_writing_back_gives_the_same_bytes() {
+    let mut seen = 0;
+    for body in some_bodies("body", 21, 5_000) {
+        let Ok(groups) = read_body(&body) else {
+            continue;
+        };
+        let slices = group_slices(&body);
+        assert_eq!(groups.len(), slices.len());
+        for (number, slice) in slices.iter().enumerate() {
+            let mut table = [EMPTY; 16];
+            let (count, text) = read_group(&body, number as u32, &mut table).unwrap();
+            assert!(table[count..].iter().all(|record| *record == EMPTY));
+            let mut buffer = vec![0x77; slice.len() + 3];
+            let length = write_group(text, &table, count as u32, &mut buffer);
+            assert_eq!(length, Ok(slice.len()));
+            assert_eq!(&buffer[..slice.len()], *slice);
+            assert_eq!(&buffer[slice.len()..], [0x77; 3]);
+            seen += 1;
+        }
+    }
+    assert!(seen > 2_000, "{seen}");
+}
+
+#[test]
+fn salvage_covers_every_byte_once_in_order() {
+    for body in some_bodies("salvage", 22, 4_000) {
+        let mut next = 0;
+        for (place, length, _) in entries_of(&body) {
+            assert_eq!(place, next);
+            assert!(length > 0);
+            next += length;
+        }
+        assert_eq!(next, body.len());
+    }
+}
+
+#[test]
+fn an_entry_is_kind_0_exactly_when_it_reads_strictly_as_one_group() {
+    let mut kinds = [0; 12];
+    for body in some_bodies("salvage", 23, 4_000) {
+        for (place, length, kind) in entries_of(&body) {
+            let alone = read_body(&body[place..place + length]);
+            let one_group = alone.as_ref().is_ok_and(|groups| groups.len() == 1);
+            assert_eq!(kind == 0, one_group);
+            if kind != 0 {
+                assert_eq!(
+                    alone.unwrap_err().number,
+                    strict_number(&body, place, length, kind)
+                );
+            }
+            kinds[usize::from(kind)] += 1;
+        }
+    }
+    assert!(
+        [0, 2, 6, 7, 8, 9, 10, 11]
+            .iter()
+            .all(|&kind| kinds[kind] > 5),
+        "{kinds:?}"
+    );
+}
+
+/// What a damaged entry alone is refused with: its kind, or for loose bytes a cut header.
+fn strict_number(body: &[u8], place: usize, length: usize, kind: u8) -> u8 {
+    let loose = !body[place..].starts_with(b"CSEG");
+    if loose && length < 8 {
+        2
+    } else {
+        kind
+    }
+}
+
+#[test]
+fn every_cseg_begins_an_entry() {
+    for body in some_bodies("salvage", 24, 3_000) {
+        let entries = entries_of(&body);
+        let stands: Vec<usize> = (0..body.len())
+            .filter(|&place| body[place..].starts_with(b"CSEG"))
+            .collect();
+        let begun: Vec<usize> = entries
+            .iter()
+            .map(|entry| entry.0)
+            .filter(|&place| body[place..].starts_with(b"CSEG"))
+            .collect();
+        assert_eq!(stands, begun);
+    }
+}
+
+#[test]
+fn an_accepted_body_without_stray_cseg_lists_as_its_groups() {
+    let mut seen = 0;
+    for body in some_bodies("body", 25, 3_000) {
+        let slices = match read_body(&body) {
+            Ok(_) => group_slices(&body),
+            Err(_) => continue,
+        };
+        let tags = body.windows(4).filter(|window| window == b"CSEG").count();
+        if tags == slices.len() {
+            let lengths: Vec<usize> = slices.iter().map(|slice| slice.len()).collect();
+            let entries = entries_of(&body);
+            assert!(entries.iter().all(|entry| entry.2 == 0));
+            let listed: Vec<usize> = entries.iter().map(|entry| entry.1).collect();
+            assert_eq!(listed, lengths);
+            seen += 1;
+        }
+    }
+    assert!(seen > 500, "{seen}");
+}
+
+#[test]
+fn lent_memory_is_kept() {
+    for verb in ["group", "salvage"] {
+        for (parts, words) in answered(verb, 26, 3_000) {
+            assert_eq!(words.last().unwrap(), "kept", "{verb} {}", parts.len());
+        }
+    }
+    for (_, words) in answered("write", 27, 3_000) {
+        let buffer = bytes(words[words.len() - 1].as_bytes()).unwrap();
+        let length = if words[0] == "ok" {
+            words[1].parse().unwrap()
+        } else {
+            0
+        };
+        assert!(buffer[length..].iter().all(|&byte| byte == 0xAA));
+    }
+    for (parts, words) in answered("edit", 28, 3_000) {
+        if words[0] == "refused" {
+            let after = bytes(words[3].as_bytes()).unwrap();
+            assert_eq!(bytes(&parts[1]).unwrap(), after);
+        }
+    }
+    for (parts, words) in answered("screen", 29, 2_000) {
+        if words[0] == "refused" {
+            assert_eq!(parts[1], words[3].as_bytes());
+        }
+    }
+}
+
+#[test]
+fn an_edit_changes_one_record_only() {
+    let mut seen = 0;
+    for (parts, words) in answered("edit", 30, 3_000) {
+        if words[0] != "ok" {
+            continue;
+        }
+        let before = bytes(&parts[1]).unwrap();
+        let after = bytes(words[1].as_bytes()).unwrap();
+        let group = number(&parts[2]).unwrap();
+        let new = record(&parts[4]).unwrap();
+        for other in 0..read_body(&before).unwrap().len() as u32 {
+            let mut old_table = [EMPTY; 16];
+            let mut new_table = [EMPTY; 16];
+            let old = read_group(&before, other, &mut old_table).unwrap();
+            assert_eq!(read_group(&after, other, &mut new_table).unwrap(), old);
+            for record in &mut old_table[..old.0] {
+                if other == group && record.bytes[0] == new.bytes[0] {
+                    record.bytes = new.bytes;
+                    seen += 1;
+                }
+            }
+            assert_eq!(old_table, new_table);
+        }
+        let mut back = after.clone();
+        let mut old_table = [EMPTY; 16];
+        let (count, _) = read_group(&before, group, &mut old_table).unwrap();
+        let old = old_table[..count]
+            .iter()
+            .find(|old| old.bytes[0] == new.bytes[0]);
+        edit(&mut back, group, new.bytes[0], old.unwrap()).unwrap();
+        assert_eq!(back, before);
+    }
+    assert!(seen > 500, "{seen}");
+}
+
+#[test]
+fn a_key_press_changes_one_byte_only() {
+    for (parts, words) in answered("screen", 31, 3_000) {
+        if words[0] == "ok" {
+            let mut expected = record(&parts[1]).unwrap();
+            expected.bytes[number(&parts[2]).unwrap() as usize] = number(&parts[3]).unwrap() as u8;
+            assert_eq!(record(words[1].as_bytes()).unwrap(), expected);
+        }
+    }
+}
+
+#[test]
+fn a_found_section_is_the_casm() {
+    for (parts, words) in answered("find", 32, 3_000) {
+        if words[0] == "ok" {
+            let file = bytes(&parts[1]).unwrap();
+            let place: usize = words[1].parse().unwrap();
+            let length: u32 = words[2].parse().unwrap();
+            assert_eq!(&file[place..place + 4], b"CASM");
+            assert_eq!(file[place + 4..place + 8], length.to_be_bytes());
+            let found = find(&file).unwrap();
+            assert_eq!(
+                found.body(&file),
+                &file[place + 8..place + 8 + length as usize]
+            );
+        }
+    }
+}
+
+/// Who plays, by the masks written out as binary digits.
+#[test]
+fn who_plays_by_binary_digits() {
+    let mut dice = Dice::new(33);
+    for _ in 0..60 {
+        let records = sound::records(&mut dice, 5);
+        let body = second::write::group_bytes(b"Main A", &records);
+        for root in 0..12 {
+            for chord_type in 0..34 {
+                let expected: Vec<u8> = records
+                    .iter()
+                    .filter(|record| {
+                        digit(&record.bytes[11..13], root)
+                            && digit(&record.bytes[13..18], chord_type)
+                    })
+                    .map(|record| record.bytes[0])
+                    .collect();
+                let played = who_plays(&body, b"Main A", root as u8, chord_type as u8);
+                assert_eq!(played, Ok(expected));
+            }
+        }
+    }
+}
+
+/// The digit of a mask, counted from its right end.
+fn digit(mask: &[u8], from_right: usize) -> bool {
+    let digits: String = mask.iter().map(|byte| format!("{byte:08b}")).collect();
+    digits.as_bytes()[digits.len() - 1 - from_right] == b'1'
+}
+
+#[test]
+fn a_voice_name_is_a_part_of_the_body() {
+    let mut dice = Dice::new(34);
+    for _ in 0..200 {
+        let records = sound::records(&mut dice, 3);
+        let body = second::write::group_bytes(b"Main A", &records);
+        for (number, record) in records.iter().enumerate() {
+            let shown = voice_name(&body, 0, record.bytes[0]).unwrap();
+            let start = 22 + 35 * number + 8 + 1;
+            assert_eq!(shown.as_ptr(), body[start..].as_ptr());
+            assert_eq!(&record.bytes[1..1 + shown.len()], shown);
+            assert!(record.bytes[1 + shown.len()..9]
+                .iter()
+                .all(|&byte| byte == b' '));
+            assert_ne!(shown.last(), Some(&b' '));
+        }
+    }
+}
+
+/// Placement against every octave of the value, the answer picked by the document's words.
+#[test]
+fn placement_by_brute_force() {
+    let mut dice = Dice::new(35);
+    for turn in 0..160 {
+        let mut record = sound::record(&mut dice, 5);
+        if turn < 20 {
+            record = plain_record();
+            record.bytes[18] = (turn % 12) as u8;
+            record.bytes[23] = 6 * turn as u8;
+            record.bytes[24] = 6 * turn as u8 + [0, 3, 10, 11, 12][turn % 5];
+        }
+        for root in 0..12 {
+            for note in 0..128 {
+                let placed = place_note(&record, root, note);
+                match by_octaves(&record, i64::from(root), i64::from(note)) {
+                    Some(expected) => assert_eq!(placed, Ok(expected), "{record:?} {root} {note}"),
+                    None => assert_eq!(placed.unwrap_err().number, 17),
+                }
+            }
+        }
+    }
+}
+
+/// None where the answer is 17; silence is an answer.
+fn by_octaves(record: &Record, root: i64, note: i64) -> Option<Option<u8>> {
+    let field = |index: usize| i64::from(record.bytes[index]);
+    let bypass = match record.second_table {
+        Some(value) => value == 0x80,
+        None => field(21) == 0,
+    };
+    if !bypass && field(20) == 1 {
+        return None;
+    }
+    let mut value = note;
+    if !bypass {
+        value += root - field(18);
+        if root > field(22) {
+            value -= 12;
+        }
+    }
+    let (low, high) = (field(23), field(24));
+    let octaves: Vec<i64> = (-20..=20)
+        .map(|octave| value + 12 * octave)
+        .filter(|&other| low <= other && other <= high)
+        .collect();
+    let chosen = if octaves.contains(&value) {
+        Some(value)
+    } else if value < low {
+        octaves.iter().min().copied()
+    } else {
+        octaves.iter().max().copied()
+    };
+    Some(chosen.map(|note| note as u8))
+}

@@ -1,0 +1,83 @@
+//! The binary itself: `calls`, `list` and `gen` with their standard streams.
+
+use std::io::Write;
+use std::process::{Command, Output, Stdio};
+
+fn second(words: &[&str], input: &[u8]) -> Output {
+    let mut child = Command::new(env!("CARGO_BIN_EXE_second"))
+        .args(words)
+        .stdin(Stdio::piped())
+        .stdout(Stdio::piped())
+        .stderr(Stdio::piped())
+        .spawn()
+        .unwrap();
+    child.stdin.take().unwrap().write_all(input).unwrap();
+    child.wait_with_output().unwrap()
+}
+
+/// The file of document 01's `list` example.
+const LIST_FILE: &[u8] = b"MThd\0\0\0\x06\0\0\0\x01\0\x60MTrk\0\0\0\x04\0\xFF\x2F\0\
+    CASM\0\0\0\x17CSEG\0\0\0\x0ESdec\0\0\0\x06Main A\0";
+
+#[test]
+fn list_example() {
+    let output = second(&["list"], LIST_FILE);
+    assert_eq!(output.stdout, b"casm 26 23\n0 22 0\n22 1 6\nend 2\n");
+    assert!(output.status.success());
+}
+
+#[test]
+fn list_of_a_file_that_is_too_long() {
+    assert_eq!(second(&["list"], &[0; 65_537]).stdout, b"refused 3 0\n");
+    assert_eq!(second(&["list"], &[0; 65_536]).stdout, b"refused 1 0\n");
+    assert_eq!(second(&["list"], b"").stdout, b"refused 1 0\n");
+}
+
+#[test]
+fn calls_answers_line_by_line() {
+    let output = second(&["calls"], b"body -\n\xFF\nsalvage 00 1\nfind -");
+    assert_eq!(output.stdout, b"ok 0\nbad\nok 1 0,1,6 kept\nrefused 1 0\n");
+    assert_eq!(second(&["calls"], b"").stdout, b"");
+}
+
+#[test]
+fn gen_prints_a_script_and_its_table() {
+    let output = second(&["gen", "7", "300", "screen", "place"], b"");
+    assert_eq!(
+        output.stdout.iter().filter(|&&byte| byte == b'\n').count(),
+        300
+    );
+    let table = String::from_utf8(output.stderr).unwrap();
+    let rows: Vec<Vec<&str>> = table.lines().map(|row| row.split(' ').collect()).collect();
+    let sum: u64 = rows.iter().map(|row| row[2].parse::<u64>().unwrap()).sum();
+    assert_eq!(sum, 300);
+    let verbs: Vec<&str> = rows.iter().map(|row| row[0]).collect();
+    assert!(verbs.is_sorted());
+    assert!(verbs.contains(&"place") && verbs.contains(&"screen"));
+    let answers = second(&["calls"], &output.stdout).stdout;
+    let bad = answers
+        .split(|&byte| byte == b'\n')
+        .filter(|line| line == b"bad")
+        .count();
+    let counted: usize = rows
+        .iter()
+        .filter(|row| row[1] == "bad")
+        .map(|row| row[2].parse::<usize>().unwrap())
+        .sum();
+    assert_eq!(bad, counted);
+}
+
+#[test]
+fn words_that_are_not_understood() {
+    for words in [
+        &[][..],
+        &["what"],
+        &["gen", "1"],
+        &["gen", "x", "1"],
+        &["gen", "1", "1", "list"],
+    ] {
+        let output = second(words, b"");
+        assert_eq!(output.status.code(), Some(2));
+        assert!(output.stdout.is_empty());
+    }
+}

@@ -1,0 +1,298 @@
+//! What the generator must reach: every (verb, answer) pair that document 01 allows and no
+//! other, and for find and body every number at every kind of place.
+
+mod common;
+
+use common::place_kinds::{body_kind, file_kind};
+use second::calls::answer;
+use second::gen::{generate, verb_of, Outcome, Script};
+use second::script::{bytes, tokens};
+use std::collections::{BTreeMap, BTreeSet};
+
+/// The refusals of a strict body, which come first in every call on one.
+const BODY: [u8; 10] = [2, 3, 6, 7, 8, 9, 10, 11, 12, 13];
+
+/// The refusals that document 01 allows each verb, beside `ok` and `bad`.
+fn allowed_numbers(verb: &str) -> Vec<u8> {
+    let with_body = |own: &[u8]| [&BODY, own].concat();
+    match verb {
+        "find" => vec![1, 2, 3, 4, 5],
+        "body" => BODY.to_vec(),
+        "group" => with_body(&[14, 16]),
+        "voice" | "plays" | "edit" => with_body(&[15, 16]),
+        "place" => vec![9, 16, 17],
+        "write" => vec![8, 9, 10, 14, 16],
+        "screen" => vec![9, 16],
+        "salvage" => vec![3, 14],
+        _ => panic!("no such verb: {verb}"),
+    }
+}
+
+const VERBS: [&str; 10] = [
+    "find", "body", "group", "voice", "plays", "place", "write", "edit", "screen", "salvage",
+];
+
+fn allowed() -> BTreeSet<(&'static str, Outcome)> {
+    let mut pairs = BTreeSet::from([("none", Outcome::Bad), ("place", Outcome::Silent)]);
+    for verb in VERBS {
+        pairs.insert((verb, Outcome::Ok));
+        pairs.insert((verb, Outcome::Bad));
+        pairs.extend(
+            allowed_numbers(verb)
+                .into_iter()
+                .map(|n| (verb, Outcome::Refused(n))),
+        );
+    }
+    pairs
+}
+
+#[test]
+fn every_allowed_answer_and_no_other() {
+    for seed in [1, 77] {
+        let table = generate(seed, 20_000, &[], std::io::sink()).unwrap();
+        let reached: BTreeSet<_> = table.keys().copied().collect();
+        assert_eq!(reached, allowed(), "seed {seed}");
+        assert_eq!(table.values().sum::<u64>(), 20_000);
+    }
+}
+
+#[test]
+fn short_scripts_reach_a_lot() {
+    let table = generate(5, 4_000, &[], std::io::sink()).unwrap();
+    let reached: BTreeSet<_> = table.keys().copied().collect();
+    let missing: Vec<_> = allowed().difference(&reached).copied().collect();
+    assert!(missing.is_empty(), "{missing:?}");
+}
+
+/// The bytes and the refusal of each refused line of a verb with one BYTES token.
+fn refusals(verb: &'static str, seed: u64, count: usize) -> Vec<(Vec<u8>, u8, usize)> {
+    let mut list = Vec::new();
+    for line in Script::new(seed, &[verb]).take(count) {
+        let answered = answer(&line);
+        let Some(refusal) = answered.strip_prefix("refused ") else {
+            continue;
+        };
+        let numbers: Vec<usize> = refusal
+            .split(' ')
+            .map(|word| word.parse().unwrap())
+            .collect();
+        let held = bytes(tokens(&line).unwrap()[1]).unwrap();
+        list.push((held, numbers[0] as u8, numbers[1]));
+    }
+    list
+}
+
+#[test]
+fn find_reaches_every_kind_of_place() {
+    let expected: BTreeSet<&str> = BTreeSet::from([
+        "1 short",
+        "1 MThd",
+        "1 length not 6",
+        "1 MTrk",
+        "1 track past the end",
+        "2 header cut, first section",
+        "2 header cut, later section",
+        "2 length past, first section",
+        "2 length past, later section",
+        "3 file",
+        "3 CASM tag, first section",
+        "3 CASM tag, later section",
+        "4 CASM",
+        "4 other tag",
+        "5 file length, no section",
+        "5 file length, other sections",
+    ]);
+    let mut reached = BTreeSet::new();
+    for (file, number, place) in refusals("find", 3, 2_000) {
+        reached.insert(file_kind(&file, number, place));
+    }
+    let expected: BTreeSet<String> = expected.into_iter().map(str::to_string).collect();
+    assert_eq!(reached, expected);
+}
+
+/// The kinds of places of a strict body, beside the bytes of a Ctab.
+const BODY_KINDS: [&str; 44] = [
+    "2 group header cut",
+    "2 group length past the body",
+    "2 header cut after CSEG",
+    "2 header cut after Sdec",
+    "2 header cut after Ctab",
+    "2 header cut after Cntt",
+    "2 Sdec past the group",
+    "2 Ctab past the group",
+    "2 Cntt past the group",
+    "6 group tag",
+    "6 group empty",
+    "6 Ctab after CSEG",
+    "6 Cntt after CSEG",
+    "6 CSEG after CSEG",
+    "6 other after CSEG",
+    "6 Sdec after Sdec",
+    "6 Sdec after Ctab",
+    "6 Sdec after Cntt",
+    "6 CSEG after Sdec",
+    "6 CSEG after Ctab",
+    "6 CSEG after Cntt",
+    "6 other after Sdec",
+    "6 other after Ctab",
+    "6 other after Cntt",
+    "6 Ctab after Cntt",
+    "7 Ctab",
+    "7 Cntt",
+    "8 empty text",
+    "8 long text",
+    "8 byte below",
+    "8 byte above",
+    "8 empty name",
+    "8 long name",
+    "8 name twice",
+    "9 Cntt channel above",
+    "10 Ctab",
+    "10 Cntt in order",
+    "10 Cntt out of order",
+    "11 no Ctab at all",
+    "11 other Ctabs only",
+    "11 out of order",
+    "9 Ctab byte 9 below",
+    "9 Cntt value 05",
+    "9 Cntt value 8B",
+];
+
+/// The byte indices of the 27 that have a range.
+const RANGED: [usize; 14] = [0, 9, 10, 11, 13, 18, 19, 20, 21, 22, 23, 24, 25, 26];
+
+/// Every (number, kind of place) of a strict body, and whether the first group can have it.
+fn body_kinds() -> BTreeMap<String, bool> {
+    let mut kinds: BTreeMap<String, bool> = BODY_KINDS
+        .iter()
+        .map(|kind| (kind.to_string(), true))
+        .collect();
+    for index in RANGED {
+        kinds.insert(format!("9 Ctab byte {index} above"), true);
+    }
+    kinds.insert("13 name of an earlier group".to_string(), false);
+    kinds
+}
+
+#[test]
+fn body_reaches_every_kind_of_place_in_every_group() {
+    let mut reached: BTreeSet<(String, usize)> = BTreeSet::new();
+    for (body, number, place) in refusals("body", 4, 1_300) {
+        let (kind, group) = body_kind(&body, number, place);
+        reached.insert((kind, group.min(2)));
+    }
+    for (kind, in_first) in body_kinds() {
+        for group in [0, 1, 2] {
+            let wanted = group > 0 || in_first;
+            let got = reached.contains(&(kind.clone(), group));
+            assert_eq!(got, wanted, "{kind}, group {group}");
+        }
+    }
+    assert!(reached.contains(&("3 body".to_string(), 0)));
+    assert!(reached.contains(&("12 33rd group".to_string(), 2)));
+}
+
+/// The catalogue and the families alone reach each kind somewhere.
+#[test]
+fn body_reaches_every_kind_early() {
+    let reached: BTreeSet<String> = refusals("body", 9, 1_300)
+        .iter()
+        .map(|(body, number, place)| body_kind(body, *number, *place).0)
+        .collect();
+    let values = [0x00, 0x03, 0x05, 0x0B, 0x7F, 0x8B, 0xFF];
+    let cntt_values = values.map(|value| format!("9 Cntt value {value:02X}"));
+    for kind in body_kinds().keys().chain(&cntt_values) {
+        assert!(reached.contains(kind), "{kind}");
+    }
+}
+
+/// Refusal places of the verbs on records: every byte index that has a range.
+#[test]
+fn record_verbs_reach_every_byte() {
+    for verb in ["place", "screen", "write", "edit"] {
+        let mut reached = BTreeSet::new();
+        for line in Script::new(6, &[verb]).take(900) {
+            let answered = answer(&line);
+            let mut words = answered.split(' ');
+            if words.next() == Some("refused") && words.next() == Some("9") {
+                reached.insert(words.next().unwrap().parse::<usize>().unwrap());
+            }
+        }
+        let records = if verb == "write" { 3 } else { 1 };
+        for record in 0..records {
+            for index in &RANGED[..13] {
+                let possible = verb != "edit" || *index != 0;
+                let got = reached.contains(&(27 * record + index));
+                assert_eq!(got, possible, "{verb} {record} {index}");
+            }
+        }
+    }
+}
+
+/// Salvage lists entries of every kind: sound, loose, and each refusal of a group.
+#[test]
+fn salvage_reaches_every_kind() {
+    let mut kinds = BTreeSet::new();
+    for line in Script::new(2, &["salvage"]).take(1_000) {
+        let answered = answer(&line);
+        for entry in answered.split(' ').filter(|word| word.contains(',')) {
+            kinds.insert(entry.rsplit(',').next().unwrap().to_string());
+        }
+    }
+    let expected = ["0", "10", "11", "2", "6", "7", "8", "9"];
+    assert_eq!(kinds.iter().collect::<Vec<_>>(), expected);
+}
+
+#[test]
+fn the_same_seed_gives_the_same_script() {
+    let print = |seed: u64, count: u64| {
+        let mut text = Vec::new();
+        generate(seed, count, &[], &mut text).unwrap();
+        text
+    };
+    let once = print(8, 3_000);
+    assert!(once == print(8, 3_000));
+    assert!(once != print(9, 3_000));
+    assert!(print(8, 4_000).starts_with(&once));
+}
+
+#[test]
+fn count_lines_exactly() {
+    for count in [0, 1, 2, 999] {
+        let mut text = Vec::new();
+        generate(1, count, &["place", "screen"], &mut text).unwrap();
+        let newlines = text.iter().filter(|&&byte| byte == b'\n').count();
+        assert_eq!(newlines as u64, count);
+    }
+}
+
+#[test]
+fn named_verbs_only() {
+    for verb in VERBS {
+        for line in Script::new(11, &[verb]).take(3_000) {
+            assert_eq!(verb_of(&line), verb, "{}", String::from_utf8_lossy(&line));
+        }
+    }
+    let both: BTreeSet<&str> = Script::new(1, &["edit", "find"])
+        .take(500)
+        .map(|line| verb_of(&line))
+        .collect();
+    assert_eq!(both, BTreeSet::from(["edit", "find"]));
+}
+
+#[test]
+fn the_mixture_begins_soon() {
+    for verb in VERBS {
+        let lines = Script::new(13, &[verb]).before_mixture();
+        assert!((200..1_400).contains(&lines), "{verb} {lines}");
+    }
+}
+
+#[test]
+fn most_lines_are_short() {
+    let short = Script::new(12, &[])
+        .take(20_000)
+        .filter(|line| line.len() < 2_000)
+        .count();
+    assert!(short > 19_000, "{short}");
+}
