@@ -1,0 +1,85 @@
+// The run of Ctabs. Where each source channel stands is kept in a table, so that no Ctab is looked at twice.
+ghost use mathlib.Core.Path.{_≡_};
+ghost use Prim.Native.Nat.{_+_, _*_, _≤_};
+ghost use lib.ListN.{length};
+ghost use Rattle.layout.specs.Ranges.{firstEdition};
+ghost use Rattle.layout.specs.Group.{ctabsOver, ctabChannel, ctabTurn};
+ghost use Rattle.group.specs.Homes.{Homes, CtabsRead};
+use layout::turn::Run;
+use layout::turn::Turn;
+
+// The run, and for each source channel 0, or one more than the number of its Ctab.
+pub struct Ctabs {
+    pub run: Run,
+    pub homes: [usize; 16],
+}
+
+// Whether the Ctabs end at `at`: the group's end, or a Cntt.
+fn is_over(c: &[u8], at: usize) -> bool
+    requires { ⌜ at ≤ length (now c) ⌝ }
+    ensures { λ r. ⌜ r ≡ ctabsOver (now (c .entry)) at ⌝ }
+{
+    if at == c.len() {
+        return true;
+    }
+    if c.len() - at < 8 {
+        return false;
+    }
+    scan::is_tagged(c, at, 0x436E_7474)
+}
+
+// Ctab number n of the run that begins at p.
+fn ctab_turn(c: &[u8], p: usize, n: usize, homes: &[usize; 16]) -> Turn
+    requires { ⌜ (p + 35 * n ≤ length (now c)) × Homes (ctabChannel firstEdition (now c) p) n (now homes) ⌝ }
+    ensures { λ r. ⌜ r ≡ ctabTurn firstEdition (now (c .entry)) p n ⌝ }
+{
+    let at = p + 35 * n;
+    if is_over(c, at) {
+        return Turn::Done;
+    }
+    let h = scan::head_fault(c, at, 0x4374_6162);
+    if h != 0 {
+        return Turn::Refused(h, at);
+    }
+    if scan::word_at(c, at + 4) != 27 {
+        return Turn::Refused(7, at);
+    }
+    let k = record::first_out(c, at + 8, 27);
+    if k < 27 {
+        return Turn::Refused(9, at + 8 + k);
+    }
+    let channel = scan::byte(c, at + 8);
+    if homes[channel] != 0 {
+        return Turn::Refused(10, at);
+    }
+    Turn::More
+}
+
+// The Ctabs from p on.
+pub fn read_ctabs(c: &[u8], p: usize) -> Ctabs
+    requires { ⌜ p ≤ length (now c) ⌝ }
+    ensures { λ r. ⌜ CtabsRead (now (c .entry)) p r ⌝ }
+{
+    let mut homes: [usize; 16] = [0; 16];
+    let mut n: usize = 0;
+    loop {
+        match ctab_turn(c, p, n, &homes) {
+            Turn::Refused(number, place) => {
+                return Ctabs {
+                    run: Run::Stopped(number, place),
+                    homes: homes,
+                };
+            }
+            Turn::Done => {
+                return Ctabs {
+                    run: Run::Ended(n),
+                    homes: homes,
+                };
+            }
+            Turn::More => {}
+        }
+        let channel = scan::byte(c, p + 35 * n + 8);
+        homes[channel] = n + 1;
+        n += 1;
+    }
+}

@@ -1,0 +1,31 @@
+-- The values from below: one law for each gap and each run of them.
+use mathlib.Core.Path.{sym}
+use native.Mathlib.Omega.{arith}
+use Rattle.layout.proofs.Outs.{value-low, value-gap, value-first, value-wide, value-last}
+use Rattle.record.proofs.is_cntt_value.Statement.{statement}
+use Rattle.record.proofs.is_cntt_value.Tie as tie
+use Rattle.record.proofs.is_cntt_value.Reads as reads
+use Rattle.record.proofs.is_cntt_value.Lts as lts
+
+-- src/lib.rt:95:9
+returns : tie.Need-returns
+returns c = sym (value-low _ (omega arith))
+
+-- src/lib.rt:98:9
+returns-2 : tie.Need-returns-2
+returns-2 c = sym (value-gap _ (omega arith))
+
+-- src/lib.rt:101:9
+returns-3 : tie.Need-returns-3
+returns-3 c = sym (value-first _ (omega arith) (c .before .if2 .left) (omega arith))
+
+-- src/lib.rt:104:9
+returns-4 : tie.Need-returns-4
+returns-4 c = sym (value-wide _ (omega arith) (omega arith))
+
+-- src/lib.rt:91:1
+returns-5 : tie.Need-returns-5
+returns-5 c = sym (value-last _ (omega arith))
+
+pub is-cntt-value-spec : {M : Type 1} → statement M
+is-cntt-value-spec = tie.close (tie.spec returns returns-2 returns-3 returns-4 returns-5)
