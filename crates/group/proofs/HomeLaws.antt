@@ -10,10 +10,10 @@ use lib.ListN.{length, getD, set, replicate, length-set, getD-replicate}
 use lib.Seq.{getD-set-same, getD-set-other}
 use borrow.Author.Tests.{eq-eqb, ne-eqb, lt-ltb, le-ltb, ltb-false}
 use Rattle.layout.specs.Scan.{first}
-use Rattle.layout.specs.declared.turn.Run.the-variants.{Stopped, Ended}
+use Rattle.layout.specs.declared.turn.Run.the-variants.{Ended}
 use Rattle.layout.specs.Ranges.{firstEdition}
 use Rattle.layout.specs.Group.{ctabChannel, ctabOf}
-use Rattle.layout.proofs.Scans.{first-end, first-kept, first-grown, first-within}
+use Rattle.layout.proofs.Scans.{first-end, first-kept, first-grown, first-within, ended-once}
 use Rattle.layout.proofs.Ctabs.{CtabMore, channel-small}
 use Rattle.group.specs.Homes.{Home, Homes}
 
@@ -91,10 +91,7 @@ module _ (c : List ℕ) (p n at channel x : ℕ) (e : channel ≡ getD c at 0) (
 -- a run that ended has one number only
 pub ended-homes : (c h : List ℕ) (p n m : ℕ) → p + 35 * n ≤ length c → Homes (ctabChannel firstEdition c p) n h → Ended n ≡ Ended m
     → (p + 35 * m ≤ length c) × Homes (ctabChannel firstEdition c p) m h
-ended-homes c h p n m l homes e = let q : n ≡ m = cc in rw (← q) (l, homes)
-
-pub not-ended : {A : Type 0} (a b n : ℕ) → Stopped a b ≡ Ended n → A
-not-ended a b n e = absurd (let z : _≡_ {A = ℕ} 0 1 = cc in omega arith)
+ended-homes c h p n m l homes e = rw (← (ended-once n m e)) (l, homes)
 
 -- a Ctab more
 pub homes-more : (c h : List ℕ) (p n channel : ℕ) → Homes (ctabChannel firstEdition c p) n h → CtabMore c p n (p + 35 * n) → channel ≡ getD c (p + 35 * n + 8) 0

@@ -5,3 +5,4 @@ pub mod Outs
 pub mod Ctabs
 pub mod Cntts
 pub mod Groups
+pub mod Bodies

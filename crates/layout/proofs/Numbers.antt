@@ -8,7 +8,7 @@ use mathlib.Core.Bool.{Bool, true, false, _&&_}
 use mathlib.Core.List.{List, [], _∷_}
 use lib.Dec.{eqb}
 use lib.ListN.{length, getD, take, drop}
-use lib.Seq.{getD-drop, drop-cons}
+use lib.Seq.{getD-take, getD-drop, drop-cons}
 use lib.Pow.{shr-shr}
 use borrow.Author.Tests.{eq-eqb, ne-eqb, eqb-true, eqb-false}
 use Rattle.layout.specs.Lists.{same}
@@ -23,6 +23,16 @@ number-drop s a b (suc w) = let z : a + (b + w) ≡ a + b + w = omega arith in r
 pub word-drop : (s : List ℕ) (a b : ℕ) → word (drop a s) b ≡ word s (a + b)
 unfolding word
 word-drop s a b = number-drop s a b 4
+
+-- .. and so is one of a first part that holds it
+pub number-take : (s : List ℕ) (n at w : ℕ) → at + w ≤ n → number (take n s) at w ≡ number s at w
+unfolding number
+number-take s n at zero h = refl
+number-take s n at (suc w) h = rw (number-take s n at w (omega arith), getD-take n s (at + w) 0 (omega arith))
+
+pub word-take : (s : List ℕ) (n at : ℕ) → at + 4 ≤ n → word (take n s) at ≡ word s at
+unfolding word
+word-take s n at h = number-take s n at 4 h
 
 -- four bytes as one number
 pub word-is : (s : List ℕ) (at a b c d : ℕ) → a ≡ getD s at 0 → b ≡ getD s (at + 1) 0 → c ≡ getD s (at + 2) 0 → d ≡ getD s (at + 3) 0

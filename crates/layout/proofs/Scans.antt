@@ -163,3 +163,11 @@ module _ (turn : ℕ → Turn) (Kept : ℕ → Type 0) (next : (k : ℕ) → Kep
   pub run-ended : (e m : ℕ) → Kept 0 → run turn 0 e ≡ Ended m → Kept m × (m < e → turn m ≡ Done)
   unfolding run
   run-ended e m held h = let r = ending (e - 0) 0 m held h in (r .0, λ l. r .1 (omega arith))
+
+-- a run that stopped did not end
+pub not-ended : {A : Type 0} (a b n : ℕ) → Stopped a b ≡ Ended n → A
+not-ended a b n e = absurd (let z : _≡_ {A = ℕ} 0 1 = cc in omega arith)
+
+-- a run ends at one number
+pub ended-once : (n m : ℕ) → Ended n ≡ Ended m → n ≡ m
+ended-once n m e = cc

@@ -1,4 +1,6 @@
 // The channel record of 27 bytes: the one table of ranges, for reader, writer and screen, and the values of a Cntt.
+pub mod held;
+
 ghost use mathlib.Core.Path.{_≡_};
 ghost use Prim.Native.Nat.{_+_, _≤_};
 ghost use lib.ListN.{length};

@@ -19,57 +19,57 @@ Inv-loop s at n low high k₀ k = (k ≤ n) × (firstOut ranges s at n ≡ first
 abbrev μ-loop : tie.MeasureT-loop
 μ-loop s at n low high k₀ k = n - k
 
--- src/lib.rt:77:5
+-- src/lib.rt:79:5
 loop-holds : tie.Need-loop-holds Inv-loop μ-loop
 unfolding firstOut
 loop-holds c = (search needs, refl)
 
--- src/lib.rt:78:19
+-- src/lib.rt:80:19
 add-b : tie.Need-add-b Inv-loop μ-loop
 add-b c = search needs
 
--- src/lib.rt:78:17
+-- src/lib.rt:80:17
 shared-slice-read-b : tie.Need-shared-slice-read-b Inv-loop μ-loop
 shared-slice-read-b c = search needs
 
--- src/lib.rt:79:16
+-- src/lib.rt:81:16
 array-read-if1 : tie.Need-array-read-if1 Inv-loop μ-loop
 array-read-if1 c = search needs
 
--- src/lib.rt:80:13
+-- src/lib.rt:82:13
 returns : tie.Need-returns Inv-loop μ-loop
 unfolding lows ranges
 returns c =
     let l = c .before .before .before .loop in
     sym (l .inv .1 ∙ first-here _ _ _ (omega arith) (out-below _ _ (omega arith)))
 
--- src/lib.rt:82:12
+-- src/lib.rt:84:12
 array-read-if2 : tie.Need-array-read-if2 Inv-loop μ-loop
 array-read-if2 c = search needs
 
--- src/lib.rt:83:13
+-- src/lib.rt:85:13
 returns-2 : tie.Need-returns-2 Inv-loop μ-loop
 unfolding lows highs ranges
 returns-2 c =
     let l = c .before .before .before .before .loop in
     sym (l .inv .1 ∙ first-here _ _ _ (omega arith) (out-above _ _ (omega arith) (omega arith)))
 
--- src/lib.rt:85:9
+-- src/lib.rt:87:9
 add-k : tie.Need-add-k Inv-loop μ-loop
 add-k c = search needs
 
--- src/lib.rt:77:5
+-- src/lib.rt:79:5
 loop-less : tie.Need-loop-less Inv-loop μ-loop
 loop-less c = search needs
 
--- src/lib.rt:77:5
+-- src/lib.rt:79:5
 loop-again : tie.Need-loop-again Inv-loop μ-loop
 unfolding lows highs ranges
 loop-again c =
     let l = c .before .before .before .before .loop in
     (omega arith, l .inv .1 ∙ first-next _ _ _ (omega arith) (out-none _ _ (omega arith) (omega arith)))
 
--- src/lib.rt:70:1
+-- src/lib.rt:72:1
 returns-3 : tie.Need-returns-3 Inv-loop μ-loop
 returns-3 c =
     let l = c .before .loop in

@@ -7,23 +7,23 @@ use Rattle.record.proofs.is_cntt_value.Tie as tie
 use Rattle.record.proofs.is_cntt_value.Reads as reads
 use Rattle.record.proofs.is_cntt_value.Lts as lts
 
--- src/lib.rt:95:9
+-- src/lib.rt:97:9
 returns : tie.Need-returns
 returns c = sym (value-low _ (omega arith))
 
--- src/lib.rt:98:9
+-- src/lib.rt:100:9
 returns-2 : tie.Need-returns-2
 returns-2 c = sym (value-gap _ (omega arith))
 
--- src/lib.rt:101:9
+-- src/lib.rt:103:9
 returns-3 : tie.Need-returns-3
 returns-3 c = sym (value-first _ (omega arith) (c .before .if2 .left) (omega arith))
 
--- src/lib.rt:104:9
+-- src/lib.rt:106:9
 returns-4 : tie.Need-returns-4
 returns-4 c = sym (value-wide _ (omega arith) (omega arith))
 
--- src/lib.rt:91:1
+-- src/lib.rt:93:1
 returns-5 : tie.Need-returns-5
 returns-5 c = sym (value-last _ (omega arith))
 

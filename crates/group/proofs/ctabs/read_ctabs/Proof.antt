@@ -6,10 +6,10 @@ use lib.ListN.{length}
 use Rattle.layout.specs.Scan.{run}
 use Rattle.layout.specs.Ranges.{firstEdition}
 use Rattle.layout.specs.Group.{ctabChannel, ctabTurn, ctabsOf}
-use Rattle.layout.proofs.Scans.{run-stop, run-done, run-more}
+use Rattle.layout.proofs.Scans.{run-stop, run-done, run-more, not-ended}
 use Rattle.layout.proofs.Ctabs.{turn-more, ctab-fits, channel-small}
 use Rattle.group.specs.Homes.{Homes}
-use Rattle.group.proofs.HomeLaws.{homes-start, homes-more, ended-homes, not-ended}
+use Rattle.group.proofs.HomeLaws.{homes-start, homes-more, ended-homes}
 use borrow.Author.Needs.{needs}
 use Rattle.group.proofs.ctabs.read_ctabs.Statement.{statement}
 use Rattle.group.proofs.ctabs.read_ctabs.Tie as tie

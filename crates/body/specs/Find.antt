@@ -1,0 +1,23 @@
+-- Looking for a group of a body: the body's refusal, no such group, or where it stands.
+use Prim.Native.Nat.{ℕ}
+use mathlib.Core.Bool.{cond}
+use mathlib.Core.List.{List}
+use lib.Dec.{leb}
+use Rattle.layout.specs.declared.turn.Run.{Run}
+use Rattle.layout.specs.declared.turn.Run.the-variants.{Stopped, Ended}
+use Rattle.layout.specs.Body.{bodyRun, standing, groupNamed}
+use Rattle.body.specs.declared.find.Search.{Search}
+use Rattle.body.specs.declared.find.Search.the-variants.{Refused, Missing, Found}
+
+-- what is looked for among n groups where the body is accepted
+abbrev pub among : Run → (ℕ → Search) → Search
+among (Stopped number place) look = Refused number place
+among (Ended n) look = look n
+
+-- group number g
+unfoldable pub groupLocated : List ℕ → ℕ → Search
+groupLocated s g = among (bodyRun s) (λ n. cond (leb n g) Missing (Found g (standing s g)))
+
+-- the group that has the part
+unfoldable pub partLocated : List ℕ → List ℕ → Search
+partLocated s name = among (bodyRun s) (λ n. cond (leb n (groupNamed s n name)) Missing (Found (groupNamed s n name) (standing s (groupNamed s n name))))

@@ -1,0 +1,118 @@
+// The groups of an accepted body: one by its number, one by the name of a part, and a record by its source channel.
+ghost use mathlib.Core.Path.{_≡_};
+ghost use Prim.Native.Nat.{_+_, _*_, _≤_};
+ghost use lib.ListN.{length, drop};
+ghost use Rattle.layout.specs.Bytes.{word};
+ghost use Rattle.layout.specs.Ranges.{firstEdition};
+ghost use Rattle.layout.specs.Group.{ctabOf, groupAt};
+ghost use Rattle.layout.specs.Body.{groupNamed, standingAt};
+ghost use Rattle.layout.specs.declared.turn.Judged.the-variants.{Sound};
+ghost use Rattle.body.specs.Known.{Places};
+ghost use Rattle.body.specs.Find.{groupLocated, partLocated};
+use crate::survey::read_groups;
+use layout::answer::Standing;
+use layout::turn::Run;
+
+// What looking for a group comes to.
+pub enum Search {
+    // The body is refused: the number and the place.
+    Refused(u8, usize),
+    // The body has no such group.
+    Missing,
+    // Its number, and where it and its parts stand.
+    Found(usize, Standing),
+}
+
+// Where the parts of the group at `at` stand, which has so many Ctabs and Cntts.
+fn standing_at(s: &[u8], at: usize, records: usize, seconds: usize) -> Standing
+    requires { ⌜ (at ≤ length (now s)) × (groupAt (drop at (now s)) ≡ Sound (word (now s) (at + 12)) records seconds) ⌝ }
+    ensures { λ r. ⌜ r ≡ standingAt (now (s .entry)) at (groupAt (drop at (now (s .entry)))) ⌝ }
+{
+    let length = scan::word_at(s, at + 12);
+    let ctabs = at + 16 + length;
+    Standing {
+        at: at,
+        size: 8 + scan::word_at(s, at + 4),
+        text: at + 16,
+        length: length,
+        ctabs: ctabs,
+        records: records,
+        cntts: ctabs + 35 * records,
+        seconds: seconds,
+    }
+}
+
+// A group by its number.
+pub fn find_group(s: &[u8], group: usize) -> Search
+    ensures { λ r. ⌜ r ≡ groupLocated (now (s .entry)) group ⌝ }
+{
+    let read = read_groups(s);
+    let places = read.places;
+    let records = read.records;
+    let seconds = read.seconds;
+    let run = read.run;
+    match run {
+        Run::Stopped(number, place) => Search::Refused(number, place),
+        Run::Ended(n) => {
+            if n <= group {
+                return Search::Missing;
+            }
+            let standing = standing_at(s, places[group], records[group], seconds[group]);
+            Search::Found(group, standing)
+        }
+    }
+}
+
+// The number of the first of n groups that has the part, or n where none has.
+fn group_named(s: &[u8], n: usize, places: &[usize; 32], name: &[u8]) -> usize
+    requires { ⌜ (n ≤ 32) × Places (now s) n (now places) ⌝ }
+    ensures { λ r. ⌜ r ≡ groupNamed (now (s .entry)) n (now (name .entry)) ⌝ }
+{
+    let mut k: usize = 0;
+    while k < n {
+        let start = places[k] + 16;
+        let end = start + scan::word_at(s, start - 4);
+        if names::has_name(&s[start..end], name) {
+            return k;
+        }
+        k += 1;
+    }
+    n
+}
+
+// A group by the name of a part.
+pub fn find_part(s: &[u8], name: &[u8]) -> Search
+    ensures { λ r. ⌜ r ≡ partLocated (now (s .entry)) (now (name .entry)) ⌝ }
+{
+    let read = read_groups(s);
+    let places = read.places;
+    let records = read.records;
+    let seconds = read.seconds;
+    let run = read.run;
+    match run {
+        Run::Stopped(number, place) => Search::Refused(number, place),
+        Run::Ended(n) => {
+            let k = group_named(s, n, &places, name);
+            if n <= k {
+                return Search::Missing;
+            }
+            let standing = standing_at(s, places[k], records[k], seconds[k]);
+            Search::Found(k, standing)
+        }
+    }
+}
+
+// The number of the first of n Ctabs from p on that has this source channel, or n where none has.
+pub fn find_row(s: &[u8], p: usize, n: usize, channel: u8) -> usize
+    requires { ⌜ p + 35 * n ≤ length (now s) ⌝ }
+    ensures { λ r. ⌜ r ≡ ctabOf firstEdition (now (s .entry)) p n channel ⌝ }
+{
+    let mut i: usize = 0;
+    while i < n {
+        if s[p + 35 * i + 8] == channel {
+            return i;
+        }
+        i += 1;
+    }
+    n
+}

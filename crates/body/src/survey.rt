@@ -1,0 +1,140 @@
+// One pass over a body. Where each group stands is kept, so that its names are found again without reading what is before them.
+ghost use mathlib.Core.Path.{_≡_};
+ghost use Prim.Native.Nat.{_+_, _≤_};
+ghost use lib.Dec.{ltb};
+ghost use lib.ListN.{length};
+ghost use Rattle.layout.specs.Bytes.{word};
+ghost use Rattle.layout.specs.Body.{groupPlace, sharing};
+ghost use Rattle.body.specs.Known.{Places, GroupTurned, Surveyed};
+use layout::turn::Judged;
+use layout::turn::Run;
+use layout::turn::Turn;
+
+// A turn, and where it goes on how many Ctabs and Cntts the group has.
+pub struct Turned {
+    pub turn: Turn,
+    pub records: usize,
+    pub seconds: usize,
+}
+
+// The run, and of each group the place of its tag, how many Ctabs it has and how many Cntts.
+pub struct Survey {
+    pub run: Run,
+    pub places: [usize; 32],
+    pub records: [usize; 32],
+    pub seconds: [usize; 32],
+}
+
+// Whether one of the n groups before has a name of the group at `at`, whose text has so many bytes.
+fn is_named_before(s: &[u8], n: usize, places: &[usize; 32], at: usize, text: usize) -> bool
+    requires { ⌜ (n ≤ 32) × (Places (now s) n (now places) × ((text ≡ word (now s) (at + 12)) × (at + 16 + text ≤ length (now s)))) ⌝ }
+    ensures { λ r. ⌜ r ≡ ltb (sharing (now (s .entry)) n at) n ⌝ }
+{
+    let start = at + 16;
+    let end = start + text;
+    let mut k: usize = 0;
+    while k < n {
+        let before = places[k] + 16;
+        let after = before + scan::word_at(s, before - 4);
+        if names::is_sharing(&s[before..after], &s[start..end]) {
+            return true;
+        }
+        k += 1;
+    }
+    false
+}
+
+// A turn that does not go on.
+fn ending(turn: Turn) -> Turned
+    ensures { λ r. ⌜ r .turn ≡ turn ⌝ }
+{
+    Turned {
+        turn: turn,
+        records: 0,
+        seconds: 0,
+    }
+}
+
+// Group number n, which stands at `at`.
+fn group_turn(s: &[u8], n: usize, at: usize, places: &[usize; 32]) -> Turned
+    requires { ⌜ (at ≡ groupPlace (now s) n) × ((at ≤ length (now s)) × ((n ≤ 32) × Places (now s) n (now places))) ⌝ }
+    ensures { λ r. ⌜ GroupTurned (now (s .entry)) n at r ⌝ }
+{
+    let whole = s.len();
+    if at == whole {
+        return ending(Turn::Done);
+    }
+    let h = scan::head_fault(s, at, 0x4353_4547);
+    if h != 0 {
+        return ending(Turn::Refused(h, at));
+    }
+    if 32 <= n {
+        return ending(Turn::Refused(12, at));
+    }
+    let length = scan::word_at(s, at + 4);
+    if length == 0 {
+        return ending(Turn::Refused(6, at));
+    }
+    let start = at + 8;
+    let end = start + length;
+    match group::judge_contents(&s[start..end]) {
+        Judged::Unsound(number, place) => ending(Turn::Refused(number, start + place)),
+        Judged::Sound(text, records, seconds) => {
+            if is_named_before(s, n, places, at, text) {
+                return ending(Turn::Refused(13, at));
+            }
+            Turned {
+                turn: Turn::More,
+                records: records,
+                seconds: seconds,
+            }
+        }
+    }
+}
+
+// The whole body: its groups, or the refusal.
+pub fn read_groups(s: &[u8]) -> Survey
+    ensures { λ r. ⌜ Surveyed (now (s .entry)) r ⌝ }
+{
+    let mut places: [usize; 32] = [0; 32];
+    let mut records: [usize; 32] = [0; 32];
+    let mut seconds: [usize; 32] = [0; 32];
+    if 32768 < s.len() {
+        return Survey {
+            run: Run::Stopped(3, 0),
+            places: places,
+            records: records,
+            seconds: seconds,
+        };
+    }
+    let mut n: usize = 0;
+    let mut at: usize = 0;
+    loop {
+        let t = group_turn(s, n, at, &places);
+        let turn = t.turn;
+        match turn {
+            Turn::Refused(number, place) => {
+                return Survey {
+                    run: Run::Stopped(number, place),
+                    places: places,
+                    records: records,
+                    seconds: seconds,
+                };
+            }
+            Turn::Done => {
+                return Survey {
+                    run: Run::Ended(n),
+                    places: places,
+                    records: records,
+                    seconds: seconds,
+                };
+            }
+            Turn::More => {}
+        }
+        places[n] = at;
+        records[n] = t.records;
+        seconds[n] = t.seconds;
+        at = at + 8 + scan::word_at(s, at + 4);
+        n += 1;
+    }
+}

@@ -1,0 +1,76 @@
+// One function for each verb. It takes the tokens behind the verb, which ends at `at`, makes one call of the library and prints the answer.
+ghost use Prim.Native.Nat.{_≤_};
+ghost use lib.ListN.{length};
+ghost use Rattle.script.specs.Printing.{Waits};
+use check::same;
+use script::print::OUT;
+use script::print::put_bad;
+use script::print::put_number;
+use script::print::put_refused;
+use script::print::put_text;
+use tokens::ROOM;
+use tokens::Taken;
+use tokens::first;
+use tokens::take_bytes;
+use tokens::verb_end;
+
+fn find(line: &[u8], at: usize, room: &mut [u8; ROOM], out: &mut [u8; OUT], used: usize) -> usize
+    requires { ⌜ Waits used ⌝ }
+    ensures { λ r. ⌜ Waits r ⌝ }
+{
+    let Taken::Bytes(count, end) = take_bytes(line, at, room) else {
+        return put_bad(out, used);
+    };
+    if end != line.len() {
+        return put_bad(out, used);
+    }
+    let found = casm::read::find_casm(first(room, count));
+    if found.number != 0 {
+        let refused = put_refused(out, used, found.number, found.place);
+        return put_text(out, refused, b"\n");
+    }
+    let accepted = put_text(out, used, b"ok");
+    let tagged = put_number(out, accepted, found.tag);
+    let measured = put_number(out, tagged, found.length);
+    put_text(out, measured, b"\n")
+}
+
+fn body(line: &[u8], at: usize, room: &mut [u8; ROOM], out: &mut [u8; OUT], used: usize) -> usize
+    requires { ⌜ Waits used ⌝ }
+    ensures { λ r. ⌜ Waits r ⌝ }
+{
+    let Taken::Bytes(count, end) = take_bytes(line, at, room) else {
+        return put_bad(out, used);
+    };
+    if end != line.len() {
+        return put_bad(out, used);
+    }
+    let read = casm::read::read_body(first(room, count));
+    if read.number != 0 {
+        let refused = put_refused(out, used, read.number, read.place);
+        return put_text(out, refused, b"\n");
+    }
+    let accepted = put_text(out, used, b"ok");
+    let counted = put_number(out, accepted, read.count);
+    put_text(out, counted, b"\n")
+}
+
+pub(crate) fn answer(line: &[u8], room: &mut [u8; ROOM], out: &mut [u8; OUT], used: usize) -> usize
+    requires { ⌜ Waits used ⌝ }
+    ensures { λ r. ⌜ Waits r ⌝ }
+{
+    let at = verb_end(line);
+    if is_verb(line, at, b"find") {
+        return find(line, at, room, out, used);
+    }
+    if is_verb(line, at, b"body") {
+        return body(line, at, room, out, used);
+    }
+    put_bad(out, used)
+}
+
+fn is_verb(line: &[u8], at: usize, verb: &[u8]) -> bool
+    requires { ⌜ at ≤ length (now line) ⌝ }
+{
+    same(&line[0..at], verb)
+}

@@ -1,0 +1,16 @@
+-- On refusal every field is 0.
+use mathlib.Core.Path.{refl}
+use Rattle.layout.specs.Answers.{numberOf, placeOf, valueOr}
+use Rattle.layout.specs.Body.{channelled}
+use Rattle.casm.proofs.read.no_channel.Statement.{statement}
+use Rattle.casm.proofs.read.no_channel.Tie as tie
+use Rattle.casm.proofs.read.no_channel.Reads as reads
+use Rattle.casm.proofs.read.no_channel.Lts as lts
+
+-- src/read.rt:106:1
+returns : tie.Need-returns
+unfolding channelled numberOf placeOf valueOr
+returns c = refl
+
+pub no-channel-spec : {M : Type 1} → statement M
+no-channel-spec = tie.close (tie.spec returns)

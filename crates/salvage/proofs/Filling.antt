@@ -1,0 +1,99 @@
+-- The loop that fills the lent list: n entries are written, the rest of the list is still to come; a turn stores three numbers at the seam.
+use Prim.Native.Nat.{ℕ, suc, _+_, _*_, _≤_, _<_}
+use native.Mathlib.Nat.{suc-add}
+use native.Mathlib.Omega.{arith}
+use mathlib.Core.Path.{_≡_, refl, sym, ap, _∙_}
+use mathlib.Core.List.{List, [], _∷_, _++_, append-assoc, flatMap}
+use lib.ListN.{length, getD, take, drop, set, length-drop, length-set}
+use lib.Seq.{drop-drop, length-take-le, take-add, drop-cons, take-length}
+use Rattle.layout.specs.Salvage.{Entry, salvage, entryNumbers, listNumbers}
+use Rattle.salvage.specs.Entries.{left, EntryAt, listAfter}
+use Rattle.salvage.proofs.Each.{flatMap-append}
+use Rattle.salvage.proofs.Steps.{left-start, left-end}
+use Rattle.salvage.proofs.Room.{numbers-length}
+
+-- three stores at the seam of xs and what follows it
+stored : (xs : List ℕ) (a b c : ℕ) (ys : List ℕ) (at x y z : ℕ) → length xs ≡ at
+    → set (set (set (xs ++ a ∷ b ∷ c ∷ ys) at x) (at + 1) y) (at + 2) z ≡ xs ++ x ∷ y ∷ z ∷ ys
+stored [] a b c ys at x y z q = rw (← q) refl
+stored (w ∷ xs) a b c ys at x y z q = rw (← q, suc-add (length xs) 1, suc-add (length xs) 2) (ap (λ (t : List ℕ). w ∷ t) (stored xs a b c ys (length xs) x y z refl))
+
+three : (n : ℕ) (l : List ℕ) → n + 3 ≤ length l → drop n l ≡ getD l n 0 ∷ getD l (suc n) 0 ∷ getD l (suc (suc n)) 0 ∷ drop (n + 3) l
+three n l h =
+    let q : n + 3 ≡ suc (suc (suc n)) = omega arith in
+    rw q (drop-cons l n 0 (omega arith) ∙ rw (drop-cons l (suc n) 0 (omega arith), drop-cons l (suc (suc n)) 0 (omega arith)))
+
+-- n entries of w are written, and r are left
+pub record Written (w : List Entry) (n : ℕ) (r : List Entry) : Type 0 where
+  pub done : n ≤ length w
+  pub rest : drop n w ≡ r
+
+module _ (w : List Entry) (n : ℕ) (e : Entry) (r : List Entry) (t : Written w n (e ∷ r)) where
+  pub written-room : n < length w
+  written-room = omega (arith, t .done, length-drop n w, ap length (t .rest))
+
+  take-more : take (n + 1) w ≡ take n w ++ (e ∷ [])
+  take-more = rw (take-add, t .rest)
+
+  numbers-more : listNumbers (take (n + 1) w) ≡ listNumbers (take n w) ++ (e .place ∷ e .size ∷ e .kind ∷ [])
+  unfolding listNumbers flatMap entryNumbers
+  numbers-more = rw (take-more, flatMap-append)
+
+  pub written-next : Written w (n + 1) r
+  written-next = record { done = omega (arith, written-room); rest = rw (← drop-drop, t .rest) }
+
+  -- the stores of one entry's numbers
+  pub written-list : (old now : List ℕ) → 3 * length w ≤ length old → now ≡ listAfter (take n w) old
+      → set (set (set now (3 * n) (e .place)) (3 * n + 1) (e .size)) (3 * n + 2) (e .kind) ≡ listAfter (take (n + 1) w) old
+  unfolding listAfter
+  written-list old now h q =
+      let l : length (take n w) ≡ n = length-take-le n w (t .done) in
+      let ln : length (listNumbers (take n w)) ≡ 3 * n = numbers-length (take n w) ∙ omega arith in
+      let l₁ : length (take (n + 1) w) ≡ n + 1 = length-take-le (n + 1) w (omega (arith, written-room)) in
+      let ln₁ : length (listNumbers (take (n + 1) w)) ≡ 3 * n + 3 = numbers-length (take (n + 1) w) ∙ omega arith in
+      rw (q, ln, ln₁, numbers-more, append-assoc, three (3 * n) old (omega (arith, written-room)))
+      (stored (listNumbers (take n w)) _ _ _ (drop (3 * n + 3) old) (3 * n) (e .place) (e .size) (e .kind) ln)
+
+pub written-start : (s : List ℕ) → Written (salvage s) 0 (left s 0)
+written-start s = record { done = omega arith; rest = sym (left-start s) }
+
+-- at the end all is written
+pub written-end : (w : List Entry) (n : ℕ) → Written w n [] → n ≡ length w
+written-end w n t = omega (arith, t .done, length-drop n w, ap length (t .rest))
+
+-- ---- the loop of `fill`
+
+pub record Filling (s old now : List ℕ) (n i : ℕ) : Type 0 where
+  pub within : i ≤ length s
+  pub turn : Written (salvage s) n (left s i)
+  pub list : now ≡ listAfter (take n (salvage s)) old
+  pub long : length now ≡ length old
+
+pub filling-start : (s old : List ℕ) → Filling s old old 0 0
+unfolding listAfter listNumbers flatMap
+filling-start s old = record { within = omega arith; turn = written-start s; list = refl; long = refl }
+
+module _ (s old now : List ℕ) (n i size kind : ℕ) (h : Filling s old now n i) (e : EntryAt s i size kind) where
+  here : Written (salvage s) n (record { place = i; size = size; kind = kind } ∷ left s (i + size))
+  here = rw (e .is) at (h .turn)
+
+  pub filling-room : n < length (salvage s)
+  filling-room = written-room _ n _ _ here
+
+  pub filling-fits : 3 * length (salvage s) ≤ length old → 3 * n + 3 ≤ length now
+  filling-fits r = omega (arith, filling-room, h .long)
+
+  pub filling-turn : 3 * length (salvage s) ≤ length old → Filling s old (set (set (set now (3 * n) i) (3 * n + 1) size) (3 * n + 2) kind) (n + 1) (i + size)
+  filling-turn r =
+      record {
+        within = e .within;
+        turn = written-next _ n _ _ here;
+        list = written-list _ n _ _ here old now r (h .list);
+        long = length-set (set (set now (3 * n) i) (3 * n + 1) size) (3 * n + 2) kind ∙ length-set (set now (3 * n) i) (3 * n + 1) size ∙ length-set now (3 * n) i ∙ h .long;
+      }
+
+pub filling-end : (s old now : List ℕ) (n i : ℕ) → Filling s old now n i → length s ≤ i → (n ≡ length (salvage s)) × (now ≡ listAfter (salvage s) old)
+filling-end s old now n i h z =
+    let t : Written (salvage s) n [] = rw (left-end s i z) at (h .turn) in
+    let q : n ≡ length (salvage s) = written-end _ n t in
+    (q, rw (q, take-length) at (h .list))

@@ -1,0 +1,11 @@
+pub mod Each
+pub mod Positions
+pub mod Cseg
+pub mod Cut
+pub mod Letters
+pub mod Verdicts
+pub mod Parts
+pub mod Steps
+pub mod Room
+pub mod Filling
+pub mod Listing

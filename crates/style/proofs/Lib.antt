@@ -1,0 +1,3 @@
+pub mod StyleLaws
+pub mod SectionLaws
+pub mod CasmLaws
