@@ -1,13 +1,15 @@
 //! The binary `second`: `calls` answers a script, `list` lists a style file, `gen` prints a
-//! script. Only arguments are handled here.
+//! script, `styles` writes style files to try `list` on. Only arguments are handled here.
 
 use second::calls::{calls, VERBS};
 use second::gen::generate;
+use second::gen::styles::style_files;
 use second::list::{list, LIST_LIMIT};
 use std::io::{self, BufWriter, Read, Write};
 use std::process::ExitCode;
 
-const USAGE: &str = "usage: second calls | second list | second gen SEED COUNT [VERB ..]";
+const USAGE: &str = "usage: second calls | second list | second gen SEED COUNT [VERB ..] \
+                     | second styles SEED COUNT FOLDER";
 
 fn main() -> ExitCode {
     let words: Vec<String> = std::env::args().skip(1).collect();
@@ -21,6 +23,10 @@ fn main() -> ExitCode {
                 _ => return usage(),
             }
         }
+        ["styles", seed, count, folder] => match (seed.parse(), count.parse()) {
+            (Ok(seed), Ok(count)) => write_styles(seed, count, folder),
+            _ => return usage(),
+        },
         _ => return usage(),
     };
     match done {
@@ -57,4 +63,12 @@ fn run_list() -> io::Result<()> {
     let mut output = io::stdout().lock();
     output.write_all(list(&file).as_bytes())?;
     output.flush()
+}
+
+/// Writes the files of a seed, each under its number.
+fn write_styles(seed: u64, count: usize, folder: &str) -> io::Result<()> {
+    for (number, file) in style_files(seed, count).iter().enumerate() {
+        std::fs::write(format!("{folder}/{number}"), file)?;
+    }
+    Ok(())
 }

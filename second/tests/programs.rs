@@ -81,3 +81,35 @@ fn words_that_are_not_understood() {
         assert!(output.stdout.is_empty());
     }
 }
+
+/// The files for `list` are as many as asked for, and list, refuse and reach both limits.
+#[test]
+fn style_files_reach_each_kind_of_answer() {
+    let files = second::gen::styles::style_files(7, 300);
+    assert_eq!(files.len(), 300);
+    let lengths: Vec<usize> = files.iter().map(Vec::len).collect();
+    assert!(lengths.contains(&0) && lengths.contains(&65_536) && lengths.contains(&65_537));
+    let answers: Vec<String> = files.iter().map(|file| second::list::list(file)).collect();
+    for start in [
+        "refused 1 0",
+        "refused 2 ",
+        "refused 3 0",
+        "refused 5 ",
+        "casm ",
+    ] {
+        assert!(
+            answers.iter().any(|answer| answer.starts_with(start)),
+            "{start}"
+        );
+    }
+    let damaged = answers.iter().filter(|answer| {
+        let lines: Vec<&str> = answer.lines().collect();
+        lines
+            .iter()
+            .any(|line| line.ends_with(" 0") && line.split(' ').count() == 3)
+            && lines
+                .iter()
+                .any(|line| line.split(' ').count() == 3 && !line.ends_with(" 0"))
+    });
+    assert!(damaged.count() > 20, "sound groups beside damaged ones");
+}

@@ -1,10 +1,12 @@
 // Reads a script on standard input and prints one answer line for each line of it. A line is taken apart, one call of the library is
 // made, and what came back is printed; no rule of the format stands here.
+mod entries;
 mod verbs;
 
 ghost use Prim.Native.Nat.{_≤_};
 ghost use Rattle.script.specs.Printing.{Waits};
 ghost use Rattle.script.specs.Reading.{InText, Sound};
+use entries::LIST;
 use script::lines;
 use script::lines::Reader;
 use script::lines::Step;
@@ -26,6 +28,7 @@ fn answer_at(
     start: usize,
     end: usize,
     room: &mut [u8; ROOM],
+    list: &mut [usize; LIST],
     out: &mut [u8; OUT],
     used: usize,
 ) -> usize
@@ -33,11 +36,17 @@ fn answer_at(
     ensures { λ r. ⌜ Waits r ⌝ }
 {
     let s: &[u8] = text;
-    verbs::answer(&s[start..end], room, out, used)
+    verbs::answer(&s[start..end], room, list, out, used)
 }
 
 // Answers a line, or reads on.
-fn turn(text: &mut [u8; TEXT], room: &mut [u8; ROOM], out: &mut [u8; OUT], g: Going) -> Going
+fn turn(
+    text: &mut [u8; TEXT],
+    room: &mut [u8; ROOM],
+    list: &mut [usize; LIST],
+    out: &mut [u8; OUT],
+    g: Going,
+) -> Going
     requires { ⌜ (Sound (g .reader)) × (Waits (g .used)) ⌝ }
     ensures { λ r. ⌜ (Sound (r .reader)) × (Waits (r .used)) ⌝ }
 {
@@ -45,7 +54,7 @@ fn turn(text: &mut [u8; TEXT], room: &mut [u8; ROOM], out: &mut [u8; OUT], g: Go
     let used = g.used;
     match lines::next(text, reader) {
         Step::Line(start, end, next) => {
-            let after = answer_at(text, start, end, room, out, used);
+            let after = answer_at(text, start, end, room, list, out, used);
             Going {
                 reader: next,
                 used: after,
@@ -74,7 +83,12 @@ fn turn(text: &mut [u8; TEXT], room: &mut [u8; ROOM], out: &mut [u8; OUT], g: Go
 }
 
 // A proved loop has to end, and nothing says that a script does. So the loop counts its turns down, from a number that no run uses up.
-fn answer_all(text: &mut [u8; TEXT], room: &mut [u8; ROOM], out: &mut [u8; OUT]) {
+fn answer_all(
+    text: &mut [u8; TEXT],
+    room: &mut [u8; ROOM],
+    list: &mut [usize; LIST],
+    out: &mut [u8; OUT],
+) {
     let mut turns = u64::MAX;
     let reader = lines::start();
     let mut g = Going {
@@ -83,7 +97,7 @@ fn answer_all(text: &mut [u8; TEXT], room: &mut [u8; ROOM], out: &mut [u8; OUT])
         more: true,
     };
     while turns > 0 && g.more {
-        g = turn(text, room, out, g);
+        g = turn(text, room, list, out, g);
         turns -= 1;
     }
     print::flush(out, g.used);
@@ -92,6 +106,7 @@ fn answer_all(text: &mut [u8; TEXT], room: &mut [u8; ROOM], out: &mut [u8; OUT])
 fn main() {
     let mut text = lines::text();
     let mut room = tokens::room();
+    let mut list = entries::list();
     let mut out = print::out();
-    answer_all(&mut text, &mut room, &mut out);
+    answer_all(&mut text, &mut room, &mut list, &mut out);
 }

@@ -2,7 +2,14 @@
 ghost use Prim.Native.Nat.{_≤_};
 ghost use lib.ListN.{length};
 ghost use Rattle.script.specs.Printing.{Waits};
+use crate::entries::LIST;
+use crate::entries::blank;
+use crate::entries::is_kept;
+use crate::entries::list_into;
+use crate::entries::put_entries;
+use crate::entries::put_kept;
 use check::same;
+use digits::Number;
 use script::print::OUT;
 use script::print::put_bad;
 use script::print::put_number;
@@ -12,6 +19,7 @@ use tokens::ROOM;
 use tokens::Taken;
 use tokens::first;
 use tokens::take_bytes;
+use tokens::take_number;
 use tokens::verb_end;
 
 fn find(line: &[u8], at: usize, room: &mut [u8; ROOM], out: &mut [u8; OUT], used: usize) -> usize
@@ -55,7 +63,52 @@ fn body(line: &[u8], at: usize, room: &mut [u8; ROOM], out: &mut [u8; OUT], used
     put_text(out, counted, b"\n")
 }
 
-pub(crate) fn answer(line: &[u8], room: &mut [u8; ROOM], out: &mut [u8; OUT], used: usize) -> usize
+fn salvage(
+    line: &[u8],
+    at: usize,
+    room: &mut [u8; ROOM],
+    list: &mut [usize; LIST],
+    out: &mut [u8; OUT],
+    used: usize,
+) -> usize
+    requires { ⌜ Waits used ⌝ }
+    ensures { λ r. ⌜ Waits r ⌝ }
+{
+    let Taken::Bytes(count, end) = take_bytes(line, at, room) else {
+        return put_bad(out, used);
+    };
+    let Number::Is(entries, last) = take_number(line, end) else {
+        return put_bad(out, used);
+    };
+    if last != line.len() {
+        return put_bad(out, used);
+    }
+    if 8192 < entries {
+        return put_bad(out, used);
+    }
+    let lending = 3 * entries;
+    blank(list, lending);
+    let listed = list_into(first(room, count), list, lending);
+    if listed.number != 0 {
+        let refused = put_refused(out, used, listed.number, listed.place);
+        return put_kept(out, refused, is_kept(list, 0, lending));
+    }
+    let accepted = put_text(out, used, b"ok");
+    let counted = put_number(out, accepted, listed.count);
+    let told = put_entries(out, counted, list, listed.count);
+    if entries < listed.count {
+        return put_kept(out, told, false);
+    }
+    put_kept(out, told, is_kept(list, 3 * listed.count, lending))
+}
+
+pub(crate) fn answer(
+    line: &[u8],
+    room: &mut [u8; ROOM],
+    list: &mut [usize; LIST],
+    out: &mut [u8; OUT],
+    used: usize,
+) -> usize
     requires { ⌜ Waits used ⌝ }
     ensures { λ r. ⌜ Waits r ⌝ }
 {
@@ -65,6 +118,9 @@ pub(crate) fn answer(line: &[u8], room: &mut [u8; ROOM], out: &mut [u8; OUT], us
     }
     if is_verb(line, at, b"body") {
         return body(line, at, room, out, used);
+    }
+    if is_verb(line, at, b"salvage") {
+        return salvage(line, at, room, list, out, used);
     }
     put_bad(out, used)
 }

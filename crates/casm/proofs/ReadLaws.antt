@@ -5,7 +5,8 @@ use mathlib.Core.Path.{_≡_, refl, sym, ap, _∙_}
 use mathlib.Core.Bool.{cond}
 use mathlib.Core.List.{List, []}
 use lib.Dec.{leb}
-use lib.ListN.{length, take, drop}
+use lib.ListN.{length, take, drop, length-drop, drop-of-length-le}
+use lib.Seq.{take-nil, take-all}
 use borrow.Author.Tests.{le-leb, lt-leb}
 use Rattle.layout.specs.Bytes.{word}
 use Rattle.layout.specs.Ranges.{firstEdition}
@@ -134,3 +135,15 @@ module _ (s : List ℕ) (g : ℕ) where
       let e = stands-text x there in
       let z : x .text + x .length - x .text ≡ x .length = omega arith in
       rw (of-found s g (granted (textAt s (groupPlace s g))) x there) (rw (z, e .0, e .1))
+
+-- ---- the body of a section
+
+module _ (s : List ℕ) (tag l : ℕ) where
+  pub section-none : length s < tag + 8 → [] ≡ take l (drop (tag + 8) s)
+  section-none h = let k : length s ≤ tag + 8 = omega arith in sym (rw (drop-of-length-le s k) (take-nil l))
+
+  pub section-rest : length s - (tag + 8) < l → take (length s - (tag + 8)) (drop (tag + 8) s) ≡ take l (drop (tag + 8) s)
+  section-rest h = take-all (length s - (tag + 8)) (drop (tag + 8) s) (rw length-drop (omega arith)) ∙ sym (take-all l (drop (tag + 8) s) (rw length-drop (omega arith)))
+
+  pub section-part : take (tag + 8 + l - (tag + 8)) (drop (tag + 8) s) ≡ take l (drop (tag + 8) s)
+  section-part = let z : tag + 8 + l - (tag + 8) ≡ l = omega arith in rw z

@@ -1,2 +1,3 @@
 // The public face: every call of document 01. A call takes every input; what it promises is one definition of the layout.
+pub mod list;
 pub mod read;

@@ -2,7 +2,7 @@
 ghost use mathlib.Core.Path.{_≡_};
 ghost use Rattle.layout.specs.Answers.{refused, nowhere as nothing};
 ghost use Rattle.layout.specs.Body.{channelled};
-ghost use Rattle.layout.specs.Promises.{CasmFound, BodyRead, GroupFound, PartFound, ChannelFound, TextShown};
+ghost use Rattle.layout.specs.Promises.{CasmFound, SectionShown, BodyRead, GroupFound, PartFound, ChannelFound, TextShown};
 use body::find::Search;
 use layout::answer::Channelled;
 use layout::answer::Counted;
@@ -18,6 +18,24 @@ pub fn find_casm(file: &[u8]) -> Located
     ensures { λ r. ⌜ CasmFound (now (file .entry)) r ⌝ }
 {
     style::find_casm(file)
+}
+
+// The body of a section whose tag stands at `tag`, where it lies; what of it is past the file's end is left off.
+pub fn section_body<'a>(file: &'a [u8], tag: usize, length: usize) -> &'a [u8]
+    ensures { λ r. ⌜ SectionShown (now (file .entry)) tag length (now r) ⌝ }
+{
+    if file.len() < 8 {
+        return &file[0..0];
+    }
+    if file.len() - 8 < tag {
+        return &file[0..0];
+    }
+    let start = tag + 8;
+    if file.len() - start < length {
+        return &file[start..];
+    }
+    let end = start + length;
+    &file[start..end]
 }
 
 // Reads a body strictly: the number of its groups.

@@ -15,7 +15,7 @@ use Rattle.layout.specs.Bytes.{word, four, tagAt, tagged, CSEG, Sdec}
 use Rattle.layout.specs.Sdec.{soundText}
 use Rattle.layout.specs.Group.{headFault, Judged, Unsound, Sound, ctabsOf, cnttsOf, afterCtabs, afterCntts, cnttAt, cnttTurn, contents, payload, groupSize, behindHeader, groupAt}
 use Rattle.layout.specs.Body.{groupPlace, textAt, sharing, afterContents, groupTurnAt, groupTurn, bodyRun}
-use Rattle.layout.proofs.Scans.{run-ended, not-ended}
+use Rattle.layout.proofs.Scans.{run-stopped, run-ended, not-ended}
 use Rattle.layout.proofs.Numbers.{word-drop}
 use Rattle.layout.proofs.Heads.{head-sound}
 use Rattle.layout.proofs.Ctabs.{ctabs-fit}
@@ -230,3 +230,36 @@ module _ (s : List ℕ) where
       go : Dec (32768 < length s) → Accepted s n
       go (yes a) = not-ended 3 0 n (sym (body-over s a) ∙ e)
       go (no a) = accepted n (omega arith) (sym (body-within s (omega arith)) ∙ e)
+
+-- ---- places lie within the body
+
+module _ (s : List ℕ) (n at number place : ℕ) (l : at ≤ length s) where
+  after-place : (r : Judged) → groupAt (drop at s) ≡ r → afterContents s n at r ≡ Refused number place → place ≤ length s
+  unfolding afterContents
+  after-place (Unsound a b) e q = let z : at + b ≡ place = cc in omega (arith, group-place (drop at s) a b e, length-drop at s)
+  after-place (Sound t c m) e q = go (ltb (sharing s n at) n) q
+    where
+      go : (b : Bool) → cond b (Refused 13 at) More ≡ Refused number place → place ≤ length s
+      go true w = let z : at ≡ place = cc in omega arith
+      go false w = absurd (let z : _≡_ {A = ℕ} 0 1 = cc in omega arith)
+
+  turn-place : groupTurnAt s n at ≡ Refused number place → place ≤ length s
+  unfolding groupTurnAt
+  turn-place q = go (eqb at (length s)) (eqb (headFault s at CSEG) 0) (leb 32 n) q
+    where
+      go : (a b d : Bool) → cond a Done (cond (not b) (Refused (headFault s at CSEG) at) (cond d (Refused 12 at) (afterContents s n at (groupAt (drop at s))))) ≡ Refused number place → place ≤ length s
+      go true b d r = absurd (let z : _≡_ {A = ℕ} 0 1 = cc in omega arith)
+      go false false d r = let z : at ≡ place = cc in omega arith
+      go false true true r = let z : at ≡ place = cc in omega arith
+      go false true false r = after-place (groupAt (drop at s)) refl r
+
+-- the place of a refused body is one of its bytes, or its end
+pub body-place : (s : List ℕ) (number place : ℕ) → bodyRun s ≡ Stopped number place → place ≤ length s
+unfolding groupTurn
+body-place s number place e = go (decLt 32768 (length s))
+  where
+    go : Dec (32768 < length s) → place ≤ length s
+    go (yes a) = let q : Stopped 3 0 ≡ Stopped number place = sym (body-over s a) ∙ e in let z : 0 ≡ place = cc in omega arith
+    go (no a) =
+        run-stopped (groupTurn s) (Kept s) (next s) (λ x y. y ≤ length s) (λ k x y held m. turn-place s k (groupPlace s k) x y (held .0) m) 33 number place (start s)
+        (sym (body-within s (omega arith)) ∙ e)

@@ -1,8 +1,8 @@
 -- What each call of the face promises: one definition over its inputs, its answer, and lent memory at entry and at exit.
-use Prim.Native.Nat.{ℕ}
+use Prim.Native.Nat.{ℕ, _+_}
 use mathlib.Core.Path.{_≡_}
 use mathlib.Core.List.{List}
-use lib.ListN.{length}
+use lib.ListN.{length, take, drop}
 use Rattle.layout.specs.Answers.{numberOf, valueOr, retold, lentAfter, answered, partOf, counted, countedAll, measured, named, grouped, spanned}
 use Rattle.layout.specs.Answers.{Answered, Counted, Measured, Located, Spanned, Grouped, Named, Channelled, Played, Placed, Changed}
 use Rattle.layout.specs.Records.{Record}
@@ -19,6 +19,10 @@ use Rattle.layout.specs.Screen.{fieldSet, changed}
 -- the CASM section of a style file: the place of its tag, the length of its body
 abbrev pub CasmFound : List ℕ → Located → Type 0
 CasmFound file r = r ≡ located (casmFound file)
+
+-- the body of a section by the place of its tag and its length, as a part of the file; what is past the file's end is left off
+abbrev pub SectionShown : List ℕ → ℕ → ℕ → List ℕ → Type 0
+SectionShown file tag length part = part ≡ take length (drop (tag + 8) file)
 
 -- a body read strictly: the number of its groups
 abbrev pub BodyRead : List ℕ → Counted → Type 0

@@ -20,7 +20,9 @@ use Rattle.layout.specs.Group.{headFault, ctabsOver, ctabOf, ctabAt, ctabTurn, 
 use Rattle.layout.specs.Group.{afterCtabs, afterCntts, contents, payload, groupSize, behindHeader, groupAt}
 use Rattle.layout.specs.Salvage.{cseg}
 use Rattle.layout.proofs.Scans.{run-stopped}
+use Rattle.layout.proofs.Numbers.{word-take}
 use Rattle.layout.proofs.Heads.{head-sound, fault-none}
+use Rattle.layout.proofs.Groups.{group-sound-is}
 use Rattle.salvage.proofs.Cseg.{cseg-more}
 
 -- when a sound group stands at the start of p
@@ -30,24 +32,13 @@ pub record SoundAt (p : List ℕ) (t n m : ℕ) : Type 0 where
   pub some : word p 4 ≡ 0 → ⊥
   pub inside : contents (payload p) ≡ Sound t n m
 
-behind-sound : (t n m : ℕ) (r : Judged) → behindHeader r ≡ Sound t n m → r ≡ Sound t n m
-unfolding behindHeader
-behind-sound t n m (Unsound a b) e = absurd (let z : _≡_ {A = ℕ} 0 1 = cc in omega arith)
-behind-sound t n m (Sound a b d) e = e
-
 -- the verdict and those facts: either way
 pub sound-at : (p : List ℕ) (t n m : ℕ) → groupAt p ≡ Sound t n m → SoundAt p t n m
-unfolding groupAt cseg
-sound-at p t n m q = go (eqb (headFault p 0 CSEG) 0) (eqb (word p 4) 0) refl refl q
-  where
-    go : (a b : Bool) → eqb (headFault p 0 CSEG) 0 ≡ a → eqb (word p 4) 0 ≡ b
-        → cond (not a) (Unsound (headFault p 0 CSEG) 0) (cond b (Unsound 6 0) (behindHeader (contents (payload p)))) ≡ Sound t n m
-        → SoundAt p t n m
-    go false b e f w = absurd (let z : _≡_ {A = ℕ} 0 1 = cc in omega arith)
-    go true true e f w = absurd (let z : _≡_ {A = ℕ} 0 1 = cc in omega arith)
-    go true false e f w =
-        let h = head-sound p 0 CSEG (eqb-true _ _ e) in
-        record { tag = h .0; long = h .1; some = eqb-false _ _ f; inside = behind-sound t n m (contents (payload p)) w }
+unfolding cseg groupSize
+sound-at p t n m q =
+    let g = group-sound-is p t n m q in
+    let h = head-sound p 0 CSEG (g .head) in
+    record { tag = h .0; long = h .1; some = λ z. absurd (omega (arith, g .size)); inside = g .inside }
 
 pub at-sound : (p : List ℕ) (t n m : ℕ) → SoundAt p t n m → groupAt p ≡ Sound t n m
 unfolding groupAt behindHeader cseg
@@ -70,10 +61,6 @@ module _ (p : List ℕ) (t n m : ℕ) (v : groupAt p ≡ Sound t n m) where
 -- ---- a sound group is judged by its own bytes alone
 
 -- the first eight bytes are the header
-word-take : (n : ℕ) (p : List ℕ) → 8 ≤ n → word (take n p) 4 ≡ word p 4
-unfolding word number
-word-take n p h = rw (getD-take n p 4 0 (omega arith), getD-take n p 5 0 (omega arith), getD-take n p 6 0 (omega arith), getD-take n p 7 0 (omega arith))
-
 word-more : (g x : List ℕ) → 8 ≤ length g → word (g ++ x) 4 ≡ word g 4
 unfolding word number
 word-more g x h =
@@ -93,13 +80,13 @@ payload-more g x l =
 module _ (p x : List ℕ) (l : 8 + word p 4 ≤ length p) where
   -- the length that a group's own bytes state, whatever follows them
   own-word : word (take (8 + word p 4) p ++ x) 4 ≡ word p 4
-  own-word = word-more (take (8 + word p 4) p) x (rw (length-take-le (8 + word p 4) p l) (omega arith)) ∙ word-take (8 + word p 4) p (omega arith)
+  own-word = word-more (take (8 + word p 4) p) x (rw (length-take-le (8 + word p 4) p l) (omega arith)) ∙ word-take p (8 + word p 4) 4 (omega arith)
 
   own-payload : payload (take (8 + word p 4) p ++ x) ≡ payload p
   own-payload =
       let k : ℕ = 8 + word p 4 in
       let g : List ℕ = take k p in
-      let w : word g 4 ≡ word p 4 = word-take k p (omega arith) in
+      let w : word g 4 ≡ word p 4 = word-take p k 4 (omega arith) in
       let h : 8 + word g 4 ≤ length g = rw (length-take-le k p l) (omega arith) in
       payload-more g x h ∙ sym (payload-more g (drop k p) h) ∙ rw (take-append-drop k p) refl
 

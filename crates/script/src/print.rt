@@ -41,15 +41,23 @@ pub fn put_text(out: &mut [u8; OUT], used: usize, text: &[u8]) -> usize
     after
 }
 
-// A space and the number.
-pub fn put_number(out: &mut [u8; OUT], used: usize, n: usize) -> usize
+// The number, in decimal.
+pub fn put_digits(out: &mut [u8; OUT], used: usize, n: usize) -> usize
     requires { ⌜ Waits used ⌝ }
     ensures { λ r. ⌜ Waits r ⌝ }
 {
     let mut digits = [0u8; 20];
     let count = io::decimal(n as u64, &mut digits);
+    put_text(out, used, &digits[..count])
+}
+
+// A space and the number.
+pub fn put_number(out: &mut [u8; OUT], used: usize, n: usize) -> usize
+    requires { ⌜ Waits used ⌝ }
+    ensures { λ r. ⌜ Waits r ⌝ }
+{
     let after = put(out, used, b' ');
-    put_text(out, after, &digits[..count])
+    put_digits(out, after, n)
 }
 
 // The answer to a line that breaks the script's grammar.

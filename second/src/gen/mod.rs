@@ -15,6 +15,7 @@ pub mod mixture;
 pub mod records;
 pub mod sound;
 pub mod spell;
+pub mod styles;
 
 use crate::calls::{answer, VERBS};
 use dice::Dice;

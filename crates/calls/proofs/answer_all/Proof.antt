@@ -6,10 +6,10 @@ use Rattle.calls.proofs.answer_all.Statement.{statement}
 use Rattle.calls.proofs.answer_all.Tie as tie
 
 abbrev Inv-loop : tie.InvT-loop
-Inv-loop text₀ room₀ out₀ turns₀ g₀ text room out turns g = (Sound (g .reader)) × (Waits (g .used))
+Inv-loop text₀ room₀ list₀ out₀ turns₀ g₀ text room list out turns g = (Sound (g .reader)) × (Waits (g .used))
 
 abbrev μ-loop : tie.MeasureT-loop
-μ-loop text₀ room₀ out₀ turns₀ g₀ text room out turns g = turns
+μ-loop text₀ room₀ list₀ out₀ turns₀ g₀ text room list out turns g = turns
 
 start-requires : tie.Need-start-requires Inv-loop μ-loop
 start-requires c κs = search needs

@@ -13,7 +13,7 @@ enum-known-start c = search needs
 
 answer-at-requires : tie.Need-answer-at-requires
 answer-at-requires c κs =
-    let at-line = c .before .before .before .before in
+    let at-line = c .before .before .before .before .before in
     let h = subst Stepped (at-line .start .given .1) (at-line .before .before .next .ensures) in
     (h .0, (h .1 .0, search needs))
 
@@ -31,7 +31,7 @@ enum-told c = search needs
 
 returns : tie.Need-returns
 returns c =
-    let at-line = c .before .before .before .before .before in
+    let at-line = c .before .before .before .before .before .before in
     let h = subst Stepped (at-line .start .given .1) (at-line .before .before .next .ensures) in
     (h .1 .1, search needs)
 

@@ -75,11 +75,17 @@ add-end c = search needs
 
 -- src/survey.rt:79:33
 sub-judge-contents : tie.Need-sub-judge-contents
-sub-judge-contents c = search needs
+sub-judge-contents c =
+    let w = c .before in
+    let f = w .before .before .before in
+    omega (arith, within _ _ _ (f .head-fault .ensures) (w .before .before .if2 .left))
 
 -- src/survey.rt:79:33
 part-judge-contents-start : tie.Need-part-judge-contents-start
-part-judge-contents-start c = search needs
+part-judge-contents-start c =
+    let w = c .before in
+    let f = w .before .before .before in
+    omega (arith, within _ _ _ (f .head-fault .ensures) (w .before .before .if2 .left))
 
 -- src/survey.rt:79:33
 part-judge-contents-end : tie.Need-part-judge-contents-end

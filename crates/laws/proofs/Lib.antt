@@ -1,0 +1,10 @@
+pub mod Elements
+pub mod Joined
+pub mod Places
+pub mod AsBody
+pub mod Entries
+pub mod Starts
+pub mod Damage
+pub mod Calls
+pub mod Tested
+pub mod Reading
