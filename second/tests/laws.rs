@@ -363,3 +363,34 @@ fn by_octaves(record: &Record, root: i64, note: i64) -> Option<Option<u8>> {
     };
     Some(chosen.map(|note| note as u8))
 }
+
+/// The condition of the request's third demand is needed: new bytes that complete a CSEG begun
+/// before them spoil the group that they follow.
+#[test]
+fn a_completed_cseg_spoils_its_neighbour() {
+    let mut earlier = b"CSEG\0\0\0\x0ESdec\0\0\0\x06".to_vec();
+    earlier.extend(b"ManCSE");
+    let listed = |body: &[u8]| {
+        let mut lent = vec![
+            second::salvage::Entry {
+                place: 0,
+                length: 0,
+                kind: 0
+            };
+            8
+        ];
+        let count = second::salvage::salvage(body, &mut lent).expect("within the limit");
+        lent[..count]
+            .iter()
+            .map(|e| (e.place, e.length, e.kind))
+            .collect::<Vec<_>>()
+    };
+    assert_eq!(listed(&earlier), [(0, 22, 0)]);
+    assert_eq!(listed(b"G"), [(0, 1, 6)]);
+    let mut spoilt = earlier.clone();
+    spoilt.extend(b"G");
+    assert_eq!(listed(&spoilt), [(0, 19, 2), (19, 4, 2)]);
+    let mut kept = earlier;
+    kept.extend(b"H");
+    assert_eq!(listed(&kept), [(0, 22, 0), (22, 1, 6)]);
+}

@@ -1,3 +1,4 @@
 // The public face: every call of document 01. A call takes every input; what it promises is one definition of the layout.
 pub mod list;
+pub mod questions;
 pub mod read;

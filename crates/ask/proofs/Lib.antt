@@ -1,0 +1,7 @@
+pub mod Sixteen
+pub mod RecordBytes
+pub mod Standing
+pub mod PlayLaws
+pub mod Playing
+pub mod Trimming
+pub mod VoiceLaws
