@@ -6,89 +6,66 @@ use Rattle.ask.proofs.VoiceLaws.{voice-no, voice-refused, voice-missing
 use borrow.Author.Needs.{needs}
 use Rattle.ask.proofs.find_voice.Statement.{statement}
 use Rattle.ask.proofs.find_voice.Tie as tie
-use Rattle.ask.proofs.find_voice.Reads as reads
-use Rattle.ask.proofs.find_voice.Lts as lts
-use Rattle.ask.proofs.no_part.Reads as no-part-reads
-use Rattle.ask.proofs.shown_length.Reads as shown-length-reads
-use Rattle.body.proofs.find.find_group.Reads as find-group-reads
-use Rattle.body.proofs.find.find_row.Reads as find-row-reads
 
--- src/lib.rt:116:11
 find-group-requires : tie.Need-find-group-requires
 find-group-requires c κs = search needs
 
--- src/lib.rt:117:25
 enum-known-number : tie.Need-enum-known-number
 enum-known-number c = search needs
 
--- src/lib.rt:117:43
 no-part-requires : tie.Need-no-part-requires
 no-part-requires c κs = search needs
 
--- src/lib.rt:118:28
 enum-told : tie.Need-enum-told
 enum-told c = search needs
 
--- src/lib.rt:118:28
 no-part-requires-2 : tie.Need-no-part-requires-2
 no-part-requires-2 c κs = search needs
 
--- src/lib.rt:119:26
 enum-known-x : tie.Need-enum-known-x
 enum-known-x c = search needs
 
--- src/lib.rt:120:17
 find-row-requires : tie.Need-find-row-requires
 find-row-requires c κs = there-within _ _ _ (group-there-is _ _ _ _ (sym (c .before .before .before .find-group .ensures) ∙ c .before .x .given .1)) .ctabs
 
--- src/lib.rt:122:17
 no-part-requires-3 : tie.Need-no-part-requires-3
 no-part-requires-3 c κs = search needs
 
--- src/lib.rt:122:17
 returns : tie.Need-returns
 returns c =
     c .no-part3 .ensures ∙ voice-no _ _ _ _ _ (voice-none _ _ _ _ (group-there-is _ _ _ _ (sym (c .before .before .before .before .before .before .before .find-group .ensures) ∙ c .before .before .before .before .before .x .given .1)) _ (c .before .before .before .find-row .ensures) (omega arith))
 
--- src/lib.rt:124:32
 mul-at : tie.Need-mul-at
 mul-at c =
     let w = there-within _ _ _ (group-there-is _ _ _ _ (sym (c .before .before .before .before .before .before .find-group .ensures) ∙ c .before .before .before .before .x .given .1)) .ctabs in
     omega arith
 
--- src/lib.rt:124:22
 add-at : tie.Need-add-at
 add-at c =
     let w = there-within _ _ _ (group-there-is _ _ _ _ (sym (c .before .before .before .before .before .before .before .find-group .ensures) ∙ c .before .before .before .before .before .x .given .1)) .ctabs in
     omega arith
 
--- src/lib.rt:124:22
 add-at-2 : tie.Need-add-at-2
 add-at-2 c =
     let w = there-within _ _ _ (group-there-is _ _ _ _ (sym (c .before .before .before .before .before .before .before .find-group .ensures) ∙ c .before .before .before .before .before .x .given .1)) .ctabs in
     omega arith
 
--- src/lib.rt:128:24
 add-t12 : tie.Need-add-t12
 add-t12 c =
     let w = there-within _ _ _ (group-there-is _ _ _ _ (sym (c .before .before .before .before .before .before .before .find-group .ensures) ∙ c .before .before .before .before .before .x .given .1)) .ctabs in
     omega arith
 
--- src/lib.rt:129:25
 shown-length-requires : tie.Need-shown-length-requires
 shown-length-requires c κs =
     let w = there-within _ _ _ (group-there-is _ _ _ _ (sym (c .before .before .before .before .before .before .before .find-group .ensures) ∙ c .before .before .before .before .before .x .given .1)) .ctabs in
     omega arith
 
--- src/lib.rt:113:1
 returns-2 : tie.Need-returns-2
 returns-2 c = c .no-part .ensures ∙ voice-no _ _ _ _ _ (voice-refused _ _ _ _ _ (sym (c .before .before .before .before .find-group .ensures) ∙ c .before .before .number .given .1))
 
--- src/lib.rt:113:1
 returns-3 : tie.Need-returns-3
 returns-3 c = c .no-part2 .ensures ∙ voice-no _ _ _ _ _ (voice-missing _ _ _ (sym (c .before .before .before .find-group .ensures) ∙ c .before .enum-told .given .1))
 
--- src/lib.rt:113:1
 returns-4 : tie.Need-returns-4
 returns-4 c = voice-there _ _ _ _ (group-there-is _ _ _ _ (sym (c .before .before .before .before .before .before .before .before .find-group .ensures) ∙ c .before .before .before .before .before .before .x .given .1)) _ (c .before .before .before .before .find-row .ensures) (omega arith) _ (c .shown-length .ensures)
 

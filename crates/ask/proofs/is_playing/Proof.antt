@@ -3,72 +3,52 @@ use Rattle.ask.proofs.PlayLaws.{root-mask, chord-mask, root-unset, root
 use borrow.Author.Needs.{needs}
 use Rattle.ask.proofs.is_playing.Statement.{statement}
 use Rattle.ask.proofs.is_playing.Tie as tie
-use Rattle.ask.proofs.is_playing.Reads as reads
-use Rattle.ask.proofs.is_playing.Lts as lts
-use Rattle.scan.proofs.byte.Reads as byte-reads
-use Rattle.scan.proofs.word_at.Reads as word-at-reads
 
--- src/lib.rt:20:31
 add-byte : tie.Need-add-byte
 add-byte c = search needs
 
--- src/lib.rt:20:17
 byte-requires : tie.Need-byte-requires
 byte-requires c κs = search needs
 
--- src/lib.rt:20:17
 mul-roots : tie.Need-mul-roots
 mul-roots c = search needs
 
--- src/lib.rt:20:62
 add-byte-2 : tie.Need-add-byte-2
 add-byte-2 c = search needs
 
--- src/lib.rt:20:48
 byte-requires-2 : tie.Need-byte-requires-2
 byte-requires-2 c κs = search needs
 
--- src/lib.rt:20:17
 add-roots : tie.Need-add-roots
 add-roots c = search needs
 
--- src/lib.rt:21:9
 shr-if1 : tie.Need-shr-if1
 shr-if1 c = search needs
 
--- src/lib.rt:22:9
 returns : tie.Need-returns
 returns c = root-unset _ _ _ _ _ (root-mask _ _ _ _ (c .before .before .byte .ensures .0) (c .before .byte2 .ensures .0)) (c .if1 .taken)
 
--- src/lib.rt:24:32
 add-byte-3 : tie.Need-add-byte-3
 add-byte-3 c = search needs
 
--- src/lib.rt:24:18
 byte-requires-3 : tie.Need-byte-requires-3
 byte-requires-3 c κs = search needs
 
--- src/lib.rt:24:18
 mul-chords : tie.Need-mul-chords
 mul-chords c = search needs
 
--- src/lib.rt:24:76
 add-word-at : tie.Need-add-word-at
 add-word-at c = search needs
 
--- src/lib.rt:24:59
 word-at-requires : tie.Need-word-at-requires
 word-at-requires c κs = search needs
 
--- src/lib.rt:24:18
 add-chords : tie.Need-add-chords
 add-chords c = search needs
 
--- src/lib.rt:25:6
 shr-result : tie.Need-shr-result
 shr-result c = search needs
 
--- src/lib.rt:16:1
 returns-2 : tie.Need-returns-2
 returns-2 c =
     root-set _ _ _ _ _ (root-mask _ _ _ _ (c .before .before .before .before .byte .ensures .0) (c .before .before .before .byte2 .ensures .0)) (c .before .before .if1 .left) _

@@ -3,10 +3,7 @@ use mathlib.Core.Path.{refl}
 use Rattle.layout.specs.Answers.{numberOf, placeOf, valueOr, spanned}
 use Rattle.ask.proofs.no_part.Statement.{statement}
 use Rattle.ask.proofs.no_part.Tie as tie
-use Rattle.ask.proofs.no_part.Reads as reads
-use Rattle.ask.proofs.no_part.Lts as lts
 
--- src/lib.rt:101:1
 returns : tie.Need-returns
 unfolding spanned numberOf placeOf valueOr
 returns c = refl

@@ -4,10 +4,7 @@ use Rattle.layout.specs.Answers.{numberOf, placeOf, valueOr}
 use Rattle.layout.specs.Plays.{played, inSixteen}
 use Rattle.ask.proofs.nobody.Statement.{statement}
 use Rattle.ask.proofs.nobody.Tie as tie
-use Rattle.ask.proofs.nobody.Reads as reads
-use Rattle.ask.proofs.nobody.Lts as lts
 
--- src/lib.rt:54:1
 returns : tie.Need-returns
 unfolding played inSixteen numberOf placeOf valueOr
 returns c = refl

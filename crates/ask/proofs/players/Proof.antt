@@ -7,9 +7,6 @@ use borrow.Author.Needs.{needs}
 use Rattle.ask.proofs.PlayLaws.{Filled, filled-start, filled-room, filled-passed, filled-more, filled-end}
 use Rattle.ask.proofs.players.Statement.{statement}
 use Rattle.ask.proofs.players.Tie as tie
-use Rattle.ask.proofs.players.Reads as reads
-use Rattle.ask.proofs.players.Lts as lts
-use Rattle.ask.proofs.is_playing.Reads as is-playing-reads
 
 abbrev Inv-loop : tie.InvT-loop
 Inv-loop s p n root kind channels₀ count₀ i₀ channels count i = (i ≤ n) × Filled s p root kind i count channels
@@ -17,66 +14,52 @@ Inv-loop s p n root kind channels₀ count₀ i₀ channels count i = (i ≤ n) 
 abbrev μ-loop : tie.MeasureT-loop
 μ-loop s p n root kind channels₀ count₀ i₀ channels count i = n - i
 
--- src/lib.rt:36:5
 loop-holds : tie.Need-loop-holds Inv-loop μ-loop
 loop-holds c = (search needs, filled-start _ _ _ _)
 
--- src/lib.rt:37:22
 mul-at : tie.Need-mul-at Inv-loop μ-loop
 mul-at c = search needs
 
--- src/lib.rt:37:18
 add-at : tie.Need-add-at Inv-loop μ-loop
 add-at c = search needs
 
--- src/lib.rt:37:18
 add-at-2 : tie.Need-add-at-2 Inv-loop μ-loop
 add-at-2 c = search needs
 
--- src/lib.rt:38:9
 add-i : tie.Need-add-i Inv-loop μ-loop
 add-i c = search needs
 
--- src/lib.rt:39:13
 is-playing-requires : tie.Need-is-playing-requires Inv-loop μ-loop
 is-playing-requires c κs = (omega arith, c .before .before .before .pre .1 .1)
 
--- src/lib.rt:36:5
 loop-less : tie.Need-loop-less Inv-loop μ-loop
 loop-less c = search needs
 
--- src/lib.rt:36:5
 loop-again : tie.Need-loop-again Inv-loop μ-loop
 loop-again c =
     let l = c .before .before .before .loop in
     (omega arith, filled-passed _ _ _ _ _ _ _ (l .inv .1) (sym (c .before .is-playing .ensures) ∙ not-true _ (c .if1 .taken)))
 
--- src/lib.rt:42:41
 shared-slice-read-t16 : tie.Need-shared-slice-read-t16 Inv-loop μ-loop
 shared-slice-read-t16 c = search needs
 
--- src/lib.rt:42:9
 array-set-from-channels : tie.Need-array-set-from-channels Inv-loop μ-loop
 array-set-from-channels c = filled-room _ _ _ _ _ _ _ (c .before .before .before .before .loop .inv .1) (omega arith)
 
--- src/lib.rt:43:9
 add-count : tie.Need-add-count Inv-loop μ-loop
 add-count c =
     let l = c .before .before .before .before .loop in
     let room = filled-room _ _ _ _ _ _ _ (l .inv .1) (omega arith) in
     omega (arith, room)
 
--- src/lib.rt:36:5
 loop-less-2 : tie.Need-loop-less-2 Inv-loop μ-loop
 loop-less-2 c = search needs
 
--- src/lib.rt:36:5
 loop-again-2 : tie.Need-loop-again-2 Inv-loop μ-loop
 loop-again-2 c =
     let l = c .before .before .before .before .loop in
     (omega arith, filled-more _ _ _ _ _ _ _ (l .inv .1) (omega arith) (sym (c .before .before .is-playing .ensures) ∙ not-false _ (c .before .if1 .left)))
 
--- src/lib.rt:29:1
 returns : tie.Need-returns Inv-loop μ-loop
 returns c = filled-end _ _ _ _ _ _ _ _ (c .before .loop .inv .1) (omega arith)
 

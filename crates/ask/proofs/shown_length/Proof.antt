@@ -8,8 +8,6 @@ use Rattle.ask.proofs.VoiceLaws.{shown-start, shown-here, shown-next, s
 use borrow.Author.Needs.{needs}
 use Rattle.ask.proofs.shown_length.Statement.{statement}
 use Rattle.ask.proofs.shown_length.Tie as tie
-use Rattle.ask.proofs.shown_length.Reads as reads
-use Rattle.ask.proofs.shown_length.Lts as lts
 
 abbrev Inv-loop : tie.InvT-loop
 Inv-loop s at n₀ n = (n ≤ 8) × (trimmed (voiceBytes s at) ≡ trimmed (take n (drop (at + 1) s)))
@@ -17,39 +15,31 @@ Inv-loop s at n₀ n = (n ≤ 8) × (trimmed (voiceBytes s at) ≡ trimmed (take
 abbrev μ-loop : tie.MeasureT-loop
 μ-loop s at n₀ n = n
 
--- src/lib.rt:91:5
 loop-holds : tie.Need-loop-holds Inv-loop μ-loop
 loop-holds c = (search needs, shown-start _ _)
 
--- src/lib.rt:92:14
 add-if1 : tie.Need-add-if1 Inv-loop μ-loop
 add-if1 c = search needs
 
--- src/lib.rt:92:12
 shared-slice-read-if1 : tie.Need-shared-slice-read-if1 Inv-loop μ-loop
 shared-slice-read-if1 c = search needs
 
--- src/lib.rt:93:13
 returns : tie.Need-returns Inv-loop μ-loop
 returns c =
     let l = c .before .before .before .loop in
     shown-here _ _ _ (c .before .before .before .before .pre) (omega arith) (l .inv .0) (l .inv .1) (c .if1 .taken)
 
--- src/lib.rt:95:9
 sub-n : tie.Need-sub-n Inv-loop μ-loop
 sub-n c = search needs
 
--- src/lib.rt:91:5
 loop-less : tie.Need-loop-less Inv-loop μ-loop
 loop-less c = search needs
 
--- src/lib.rt:91:5
 loop-again : tie.Need-loop-again Inv-loop μ-loop
 loop-again c =
     let l = c .before .before .before .loop in
     (omega arith, shown-next _ _ _ (c .before .before .before .before .pre) (omega arith) (l .inv .0) (l .inv .1) (c .if1 .left))
 
--- src/lib.rt:86:1
 returns-2 : tie.Need-returns-2 Inv-loop μ-loop
 returns-2 c = shown-none _ _ (c .before .loop .n) (c .before .loop .inv .1) (omega arith)
 

@@ -4,31 +4,22 @@ use Rattle.ask.proofs.VoiceLaws.{voice-within, voice-shown}
 use borrow.Author.Needs.{needs}
 use Rattle.ask.proofs.voice_name.Statement.{statement}
 use Rattle.ask.proofs.voice_name.Tie as tie
-use Rattle.ask.proofs.voice_name.Reads as reads
-use Rattle.ask.proofs.voice_name.Lts as lts
-use Rattle.ask.proofs.find_voice.Reads as find-voice-reads
 
--- src/lib.rt:139:9
 find-voice-requires : tie.Need-find-voice-requires
 find-voice-requires c κs = search needs
 
--- src/lib.rt:141:15
 add-end : tie.Need-add-end
 add-end c = omega (arith, voice-within _ _ _ _ (c .before .find-voice .ensures))
 
--- src/lib.rt:142:5
 sub-result : tie.Need-sub-result
 sub-result c = search needs
 
--- src/lib.rt:142:5
 part-result-start : tie.Need-part-result-start
 part-result-start c = search needs
 
--- src/lib.rt:142:5
 part-result-end : tie.Need-part-result-end
 part-result-end c = voice-within _ _ _ _ (c .before .find-voice .ensures)
 
--- src/lib.rt:136:1
 returns : tie.Need-returns
 returns c = voice-shown _ _ _ _ (c .before .before .find-voice .ensures)
 

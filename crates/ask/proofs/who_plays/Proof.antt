@@ -7,70 +7,52 @@ use Rattle.ask.proofs.PlayLaws.{nobody-plays, plays-refused, read-throu
 use borrow.Author.Needs.{needs}
 use Rattle.ask.proofs.who_plays.Statement.{statement}
 use Rattle.ask.proofs.who_plays.Tie as tie
-use Rattle.ask.proofs.who_plays.Reads as reads
-use Rattle.ask.proofs.who_plays.Lts as lts
-use Rattle.ask.proofs.nobody.Reads as nobody-reads
-use Rattle.ask.proofs.players.Reads as players-reads
-use Rattle.body.proofs.find.find_part.Reads as find-part-reads
 
--- src/lib.rt:69:9
 find-part-requires : tie.Need-find-part-requires
 find-part-requires c κs = search needs
 
--- src/lib.rt:70:28
 enum-known-search : tie.Need-enum-known-search
 enum-known-search c = search needs
 
--- src/lib.rt:71:9
 nobody-requires : tie.Need-nobody-requires
 nobody-requires c κs = search needs
 
--- src/lib.rt:71:9
 returns : tie.Need-returns
 returns c =
     c .nobody .ensures ∙ nobody-plays _ _ _ _ _ _ (plays-refused _ _ _ _ _ _ (sym (c .before .before .before .before .find-part .ensures) ∙ c .before .before .search .given .1))
 
--- src/lib.rt:74:9
 nobody-requires-2 : tie.Need-nobody-requires-2
 nobody-requires-2 c κs = search needs
 
--- src/lib.rt:74:9
 returns-2 : tie.Need-returns-2
 returns-2 c =
     let r = read-through _ _ _ (sym (c .before .before .before .find-part .ensures)) (c .before .before .match .keys2) in
     c .nobody2 .ensures ∙ nobody-plays _ _ _ _ _ _ (no-such-root _ _ _ _ (r .0) (r .1) (c .before .if1 .taken))
 
--- src/lib.rt:77:9
 nobody-requires-3 : tie.Need-nobody-requires-3
 nobody-requires-3 c κs = search needs
 
--- src/lib.rt:77:9
 returns-3 : tie.Need-returns-3
 returns-3 c =
     let r = read-through _ _ _ (sym (c .before .before .before .before .find-part .ensures)) (c .before .before .before .match .keys2) in
     c .nobody3 .ensures ∙ nobody-plays _ _ _ _ _ _ (no-such-type _ _ _ _ (r .0) (r .1) (omega arith) (c .before .if2 .taken))
 
--- src/lib.rt:79:26
 enum-known-search-2 : tie.Need-enum-known-search-2
 enum-known-search-2 c = search needs
 
--- src/lib.rt:80:9
 nobody-requires-4 : tie.Need-nobody-requires-4
 nobody-requires-4 c κs = search needs
 
--- src/lib.rt:80:9
 returns-4 : tie.Need-returns-4
 returns-4 c =
     let e = not-found _ (c .before .before .before .before .match .keys2) (c .before .match2 .keys2) in
     c .nobody4 .ensures ∙ nobody-plays _ _ _ _ _ _ (no-such-part _ _ _ _ (sym (c .before .before .before .before .before .find-part .ensures) ∙ e) (omega arith) (omega arith))
 
--- src/lib.rt:82:5
 players-requires : tie.Need-players-requires
 players-requires c κs =
     let p = part-there-is _ _ _ _ (sym (c .before .before .before .before .before .before .find-part .ensures) ∙ c .before .search2 .given .1) in
     (there-within _ _ _ (p .there) .ctabs, (there-sixteen _ _ _ (p .there), (omega arith, omega arith)))
 
--- src/lib.rt:66:1
 returns-5 : tie.Need-returns-5
 returns-5 c =
     c .players .ensures ∙ part-plays _ _ _ _ _ _ (sym (c .before .before .before .before .before .before .before .find-part .ensures) ∙ c .before .before .search2 .given .1) (omega arith) (omega arith)

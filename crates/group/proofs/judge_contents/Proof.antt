@@ -7,79 +7,56 @@ use Rattle.layout.proofs.Groups.{contents-head, contents-text, contents-stopped
 use borrow.Author.Needs.{needs}
 use Rattle.group.proofs.judge_contents.Statement.{statement}
 use Rattle.group.proofs.judge_contents.Tie as tie
-use Rattle.group.proofs.judge_contents.Reads as reads
-use Rattle.group.proofs.judge_contents.Lts as lts
-use Rattle.group.proofs.cntts.read_cntts.Reads as read-cntts-reads
-use Rattle.group.proofs.ctabs.read_ctabs.Reads as read-ctabs-reads
-use Rattle.names.proofs.is_sound_text.Reads as is-sound-text-reads
-use Rattle.scan.proofs.head_fault.Reads as head-fault-reads
-use Rattle.scan.proofs.word_at.Reads as word-at-reads
 
--- src/lib.rt:16:9
 head-fault-requires : tie.Need-head-fault-requires
 head-fault-requires c κs = search needs
 
--- src/lib.rt:18:9
 returns : tie.Need-returns
 returns c = sym (contents-head _ _ (c .before .head-fault .ensures) (c .if1 .taken))
 
--- src/lib.rt:20:9
 word-at-requires : tie.Need-word-at-requires
 word-at-requires c κs = omega (arith, head-sound _ _ _ (sym (c .before .head-fault .ensures) ∙ c .if1 .left) .1)
 
--- src/lib.rt:21:13
 add-p : tie.Need-add-p
 add-p c = search needs
 
--- src/lib.rt:22:30
 sub-is-sound-text : tie.Need-sub-is-sound-text
 sub-is-sound-text c = search needs
 
--- src/lib.rt:22:30
 part-is-sound-text-start : tie.Need-part-is-sound-text-start
 part-is-sound-text-start c = search needs
 
--- src/lib.rt:22:30
 part-is-sound-text-end : tie.Need-part-is-sound-text-end
 part-is-sound-text-end c = omega (arith, head-sound _ _ _ (sym (c .before .before .head-fault .ensures) ∙ c .before .if1 .left) .1, c .word-at .ensures .0)
 
--- src/lib.rt:22:9
 is-sound-text-requires : tie.Need-is-sound-text-requires
 is-sound-text-requires c κs = search needs
 
--- src/lib.rt:23:9
 returns-2 : tie.Need-returns-2
 returns-2 c =
     let d = c .before .before .before in
     sym (contents-text _ _ (d .before .before .head-fault .ensures) (d .before .if1 .left) _ (d .word-at .ensures .0) (sym (c .before .is-sound-text .ensures) ∙ not-true _ (c .if2 .taken)))
 
--- src/lib.rt:25:9
 read-ctabs-requires : tie.Need-read-ctabs-requires
 read-ctabs-requires c κs =
     let d = c .before .before .before in
     omega (arith, head-sound _ _ _ (sym (d .before .before .head-fault .ensures) ∙ d .before .if1 .left) .1, d .word-at .ensures .0)
 
--- src/lib.rt:29:22
 enum-known-run : tie.Need-enum-known-run
 enum-known-run c = search needs
 
--- src/lib.rt:30:20
 enum-known-run-2 : tie.Need-enum-known-run-2
 enum-known-run-2 c = search needs
 
--- src/lib.rt:30:32
 read-cntts-requires : tie.Need-read-cntts-requires
 read-cntts-requires c κs = c .before .before .before .before .before .read-ctabs .ensures .homes _ (c .before .before .run2 .given .1)
 
--- src/lib.rt:31:26
 enum-known-number : tie.Need-enum-known-number
 enum-known-number c = search needs
 
--- src/lib.rt:32:24
 enum-known-m : tie.Need-enum-known-m
 enum-known-m c = search needs
 
--- src/lib.rt:13:1
 returns-3 : tie.Need-returns-3
 returns-3 c =
     let r = c .before .before .before .before in
@@ -87,7 +64,6 @@ returns-3 c =
     let sound = sym (r .before .before .is-sound-text .ensures) ∙ not-false _ (r .before .if2 .left) in
     sym (contents-stopped _ _ (d .before .before .head-fault .ensures) (d .before .if1 .left) _ (d .word-at .ensures .0) sound _ _ (sym (r .read-ctabs .ensures .run) ∙ c .before .run .given .1))
 
--- src/lib.rt:13:1
 returns-4 : tie.Need-returns-4
 returns-4 c =
     let h = c .before .before .before in
@@ -96,7 +72,6 @@ returns-4 c =
     let sound = sym (r .before .before .is-sound-text .ensures) ∙ not-false _ (r .before .if2 .left) in
     sym (contents-halted _ _ (d .before .before .head-fault .ensures) (d .before .if1 .left) _ (d .word-at .ensures .0) sound _ (sym (r .read-ctabs .ensures .run) ∙ h .before .before .before .run2 .given .1) _ _ (sym (h .read-cntts .ensures) ∙ c .before .number .given .1))
 
--- src/lib.rt:13:1
 returns-5 : tie.Need-returns-5
 returns-5 c =
     let h = c .before .before .before in

@@ -7,57 +7,41 @@ use Rattle.layout.proofs.Groups.{group-head, group-empty, group-unsound, group-
 use borrow.Author.Needs.{needs}
 use Rattle.group.proofs.judge_group.Statement.{statement}
 use Rattle.group.proofs.judge_group.Tie as tie
-use Rattle.group.proofs.judge_group.Reads as reads
-use Rattle.group.proofs.judge_group.Lts as lts
-use Rattle.group.proofs.judge_contents.Reads as judge-contents-reads
-use Rattle.scan.proofs.head_fault.Reads as head-fault-reads
-use Rattle.scan.proofs.word_at.Reads as word-at-reads
 
--- src/lib.rt:41:9
 head-fault-requires : tie.Need-head-fault-requires
 head-fault-requires c κs = search needs
 
--- src/lib.rt:43:9
 returns : tie.Need-returns
 returns c = sym (group-head _ _ (c .before .head-fault .ensures) (c .if1 .taken))
 
--- src/lib.rt:45:9
 word-at-requires : tie.Need-word-at-requires
 word-at-requires c κs = omega (arith, head-sound _ _ _ (sym (c .before .head-fault .ensures) ∙ c .if1 .left) .1)
 
--- src/lib.rt:47:9
 returns-2 : tie.Need-returns-2
 returns-2 c =
     let d = c .before in
     sym (group-empty _ _ (d .before .before .head-fault .ensures) (d .before .if1 .left) _ (d .word-at .ensures .0) (c .if2 .taken))
 
--- src/lib.rt:49:15
 add-end : tie.Need-add-end
 add-end c = search needs
 
--- src/lib.rt:50:26
 sub-judge-contents : tie.Need-sub-judge-contents
 sub-judge-contents c = search needs
 
--- src/lib.rt:50:26
 part-judge-contents-start : tie.Need-part-judge-contents-start
 part-judge-contents-start c = search needs
 
--- src/lib.rt:50:26
 part-judge-contents-end : tie.Need-part-judge-contents-end
 part-judge-contents-end c =
     let d = c .before in
     omega (arith, head-sound _ _ _ (sym (d .before .before .head-fault .ensures) ∙ d .before .if1 .left) .1, d .word-at .ensures .0)
 
--- src/lib.rt:50:11
 judge-contents-requires : tie.Need-judge-contents-requires
 judge-contents-requires c κs = search needs
 
--- src/lib.rt:51:25
 enum-known-number : tie.Need-enum-known-number
 enum-known-number c = search needs
 
--- src/lib.rt:51:67
 add-t17 : tie.Need-add-t17
 add-t17 c =
     let j = c .before .before .before in
@@ -68,11 +52,9 @@ add-t17 c =
           (sym (j .judge-contents .ensures) ∙ c .before .number .given .1),
     )
 
--- src/lib.rt:52:23
 enum-known-text : tie.Need-enum-known-text
 enum-known-text c = search needs
 
--- src/lib.rt:38:1
 returns-3 : tie.Need-returns-3
 returns-3 c =
     let j = c .before .before .before in
@@ -80,7 +62,6 @@ returns-3 c =
     sym (group-unsound _ _ (d .before .before .head-fault .ensures) (d .before .if1 .left) _ (d .word-at .ensures .0) (j .before .before .if2 .left) _ _
     (sym (j .judge-contents .ensures) ∙ c .before .number .given .1))
 
--- src/lib.rt:38:1
 returns-4 : tie.Need-returns-4
 returns-4 c =
     let j = c .before .before .before in

@@ -4,11 +4,6 @@ use Rattle.script.specs.Printing.{Waits}
 use borrow.Author.Needs.{needs}
 use Rattle.list.proofs.put_entries.Statement.{statement}
 use Rattle.list.proofs.put_entries.Tie as tie
-use Rattle.list.proofs.put_entries.Reads as reads
-use Rattle.list.proofs.put_entries.Lts as lts
-use Rattle.list.proofs.put_field.Reads as put-field-reads
-use Rattle.script.proofs.print.put_number.Reads as put-number-reads
-use Rattle.script.proofs.print.put_text.Reads as put-text-reads
 
 abbrev Inv-loop : tie.InvT-loop
 Inv-loop out₀ used list count after₀ k₀ t9 t10 out after k = Waits after
@@ -16,47 +11,36 @@ Inv-loop out₀ used list count after₀ k₀ t9 t10 out after k = Waits after
 abbrev μ-loop : tie.MeasureT-loop
 μ-loop out₀ used list count after₀ k₀ t9 t10 out after k = 24576 - k
 
--- src/main.rt:55:5
 loop-holds : tie.Need-loop-holds Inv-loop μ-loop
 loop-holds c = search needs
 
--- src/main.rt:56:9
 put-field-requires : tie.Need-put-field-requires Inv-loop μ-loop
 put-field-requires c κs = search needs
 
--- src/main.rt:57:9
 add-k : tie.Need-add-k Inv-loop μ-loop
 add-k c = search needs
 
--- src/main.rt:55:5
 loop-less : tie.Need-loop-less Inv-loop μ-loop
 loop-less c = search needs
 
--- src/main.rt:55:5
 loop-again : tie.Need-loop-again Inv-loop μ-loop
 loop-again c = search needs
 
--- src/main.rt:59:38
 slice-aggregate-put-text : tie.Need-slice-aggregate-put-text Inv-loop μ-loop
 slice-aggregate-put-text c = search needs
 
--- src/main.rt:59:9
 put-text-requires : tie.Need-put-text-requires Inv-loop μ-loop
 put-text-requires c κs = search needs
 
--- src/main.rt:60:9
 put-number-requires : tie.Need-put-number-requires Inv-loop μ-loop
 put-number-requires c κs = search needs
 
--- src/main.rt:61:28
 slice-aggregate-put-text-2 : tie.Need-slice-aggregate-put-text-2 Inv-loop μ-loop
 slice-aggregate-put-text-2 c = search needs
 
--- src/main.rt:61:5
 put-text-requires-2 : tie.Need-put-text-requires-2 Inv-loop μ-loop
 put-text-requires-2 c κs = search needs
 
--- src/main.rt:49:1
 returns : tie.Need-returns Inv-loop μ-loop
 returns c = search needs
 

@@ -12,9 +12,6 @@ use Rattle.place.proofs.Folding.{remainder-small, fold-below, fold-abov
 use borrow.Author.Needs.{needs}
 use Rattle.place.proofs.fold.Statement.{statement}
 use Rattle.place.proofs.fold.Tie as tie
-use Rattle.place.proofs.fold.Reads as reads
-use Rattle.place.proofs.fold.Lts as lts
-use Rattle.place.proofs.octave_remainder.Reads as octave-remainder-reads
 
 module _ (c : tie.Start) where
   v-reads : toZ w32 (ofZ w32 (c .args .value)) ≡ c .args .value
@@ -62,57 +59,46 @@ raised-near c = omega (arith, remainder-small (past-low c))
 lowered-near : (c : tie.Start) → mag (pos (c .args .high) -ℤ pos (remainder (past-high c))) < 65536
 lowered-near c = omega (arith, remainder-small (past-high c), mag-sub (pos (c .args .high)) (pos (remainder (past-high c))))
 
--- src/lib.rt:73:13
 cast-l : tie.Need-cast-l
 cast-l c = search needs
 
--- src/lib.rt:74:13
 cast-h : tie.Need-cast-h
 cast-h c = search needs
 
--- src/lib.rt:76:37
 sub-octave-remainder : tie.Need-sub-octave-remainder
 sub-octave-remainder c = let s = c .before in rw (v-reads s, l-reads s) (fits (past-low s) (omega (arith, low-near s)))
 
--- src/lib.rt:76:20
 octave-remainder-requires : tie.Need-octave-remainder-requires
 octave-remainder-requires c κs = let s = c .before in rw (v-reads s, l-reads s, low-reads s) (low-near s)
 
--- src/lib.rt:76:16
 add-result : tie.Need-add-result
 add-result c =
     let s = c .before .before in
     rw (l-reads s, raised c) (fits (pos (s .args .low) +ℤ pos (remainder (past-low s))) (raised-near s))
 
--- src/lib.rt:76:9
 returns : tie.Need-returns
 returns c =
     let s = c .before .before in
     rw (l-reads s, raised c, reads-back (pos (s .args .low) +ℤ pos (remainder (past-low s))) (raised-near s))
     (sym (fold-below (s .args .value) (s .args .low) (s .args .high) (rw (v-reads s, l-reads s) at (c .before .if1 .taken))))
 
--- src/lib.rt:79:37
 sub-octave-remainder-2 : tie.Need-sub-octave-remainder-2
 sub-octave-remainder-2 c = let s = c .before .before in rw (v-reads s, h-reads s) (fits (past-high s) (omega (arith, high-near s)))
 
--- src/lib.rt:79:20
 octave-remainder-requires-2 : tie.Need-octave-remainder-requires-2
 octave-remainder-requires-2 c κs = let s = c .before .before in rw (v-reads s, h-reads s, high-reads s) (high-near s)
 
--- src/lib.rt:79:16
 sub-result : tie.Need-sub-result
 sub-result c =
     let s = c .before .before .before in
     rw (h-reads s, lowered c) (fits (pos (s .args .high) -ℤ pos (remainder (past-high s))) (lowered-near s))
 
--- src/lib.rt:79:9
 returns-2 : tie.Need-returns-2
 returns-2 c =
     let s = c .before .before .before in
     rw (h-reads s, lowered c, reads-back (pos (s .args .high) -ℤ pos (remainder (past-high s))) (lowered-near s))
     (sym (fold-above (s .args .value) (s .args .low) (s .args .high) (rw (v-reads s, l-reads s) at (c .before .before .if1 .left)) (rw (v-reads s, h-reads s) at (c .before .if2 .taken))))
 
--- src/lib.rt:69:1
 returns-3 : tie.Need-returns-3
 returns-3 c =
     let s = c .before .before in

@@ -12,12 +12,7 @@ use Rattle.place.proofs.Folding.{folded-small, heard-low, heard-high, h
 use borrow.Author.Needs.{needs}
 use Rattle.place.proofs.hear.Statement.{statement}
 use Rattle.place.proofs.hear.Tie as tie
-use Rattle.place.proofs.hear.Reads as reads
-use Rattle.place.proofs.hear.Lts as lts
-use Rattle.place.proofs.fold.Reads as fold-reads
-use Rattle.place.proofs.silence.Reads as silence-reads
 
--- src/lib.rt:113:9
 fold-requires : tie.Need-fold-requires
 fold-requires c κs = search needs
 
@@ -36,30 +31,24 @@ module _ (c : tie.After-fold) where
   h-reads : toZ w32 (c .before .args .high) ≡ pos (c .before .args .high)
   h-reads = u8-reads (c .before .args .high) (omega arith)
 
--- src/lib.rt:114:13
 cast-if1 : tie.Need-cast-if1
 cast-if1 c = search needs
 
--- src/lib.rt:115:9
 silence-requires : tie.Need-silence-requires
 silence-requires c κs = search needs
 
--- src/lib.rt:115:9
 returns : tie.Need-returns
 returns c =
     let f = c .before .before in
     let a = f .before .args in
     c .silence .ensures ∙ answers (ap granted (heard-low (a .value) (a .low) (a .high) (f .fold .result) (is-folded f) (rw (n-reads f, l-reads f) at (c .before .if1 .taken))))
 
--- src/lib.rt:117:9
 cast-if2 : tie.Need-cast-if2
 cast-if2 c = search needs
 
--- src/lib.rt:118:9
 silence-requires-2 : tie.Need-silence-requires-2
 silence-requires-2 c κs = search needs
 
--- src/lib.rt:118:9
 returns-2 : tie.Need-returns-2
 returns-2 c =
     let f = c .before .before .before in
@@ -68,7 +57,6 @@ returns-2 c =
     ∙ answers (ap granted (heard-high (a .value) (a .low) (a .high) (f .fold .result) (is-folded f)
     (rw (n-reads f, l-reads f) at (c .before .before .if1 .left)) (rw (n-reads f, h-reads f) at (c .before .if2 .taken))))
 
--- src/lib.rt:120:16
 cast-note : tie.Need-cast-note
 cast-note c =
     let f = c .before .before in
@@ -76,7 +64,6 @@ cast-note c =
     let w = within-byte (f .fold .result) (a .low) (a .high) (omega arith) (rw (n-reads f, l-reads f) at (c .before .if1 .left)) (rw (n-reads f, h-reads f) at (c .if2 .left)) in
     rw (n-reads f) (w .0, record { fits = w .1 })
 
--- src/lib.rt:109:1
 returns-3 : tie.Need-returns-3
 unfolding placed
 returns-3 c =

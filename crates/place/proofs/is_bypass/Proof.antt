@@ -4,19 +4,13 @@ use Rattle.place.proofs.Ways.{bypass-00, bypass-80}
 use borrow.Author.Needs.{needs}
 use Rattle.place.proofs.is_bypass.Statement.{statement}
 use Rattle.place.proofs.is_bypass.Tie as tie
-use Rattle.place.proofs.is_bypass.Reads as reads
-use Rattle.place.proofs.is_bypass.Lts as lts
-use Rattle.place.proofs.effective_table.Reads as effective-table-reads
 
--- src/lib.rt:35:9
 effective-table-requires : tie.Need-effective-table-requires
 effective-table-requires c κs = search needs
 
--- src/lib.rt:37:9
 returns : tie.Need-returns
 returns c = sym (bypass-00 _ _ (c .before .effective-table .ensures) (c .if1 .taken))
 
--- src/lib.rt:30:1
 returns-2 : tie.Need-returns-2
 returns-2 c = sym (bypass-80 _ _ (c .before .effective-table .ensures) (c .if1 .left))
 

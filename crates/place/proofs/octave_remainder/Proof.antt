@@ -10,8 +10,6 @@ use Rattle.place.proofs.Signed.{fits, reads-back, mag-add}
 use Rattle.place.proofs.Folding.{rem-small, quot-small, rem-below, rem-above}
 use Rattle.place.proofs.octave_remainder.Statement.{statement}
 use Rattle.place.proofs.octave_remainder.Tie as tie
-use Rattle.place.proofs.octave_remainder.Reads as reads
-use Rattle.place.proofs.octave_remainder.Lts as lts
 
 module _ (c : tie.Start) where
   abbrev m : ℤ
@@ -26,21 +24,17 @@ module _ (c : tie.Start) where
   near : mag (m +ℤ pos 12) < 65536
   near = omega (arith, rem-small (c .args .x), mag-add m (pos 12))
 
--- src/lib.rt:61:13
 rem-m : tie.Need-rem-m
 rem-m c = rw (x-reads c) (omega arith, fits (quotZ (c .args .x) (pos 12)) (omega (arith, quot-small (c .args .x))))
 
--- src/lib.rt:63:16
 add-result : tie.Need-add-result
 add-result c = let s = c .before in rw (x-reads s, m-reads s) (fits (m s +ℤ pos 12) (near s))
 
--- src/lib.rt:63:9
 returns : tie.Need-returns
 returns c =
     let s = c .before in
     rw (x-reads s, m-reads s, reads-back (m s +ℤ pos 12) (near s)) (rem-below (s .args .x) (rw (x-reads s, m-reads s) at (c .if1 .taken)))
 
--- src/lib.rt:57:1
 returns-2 : tie.Need-returns-2
 returns-2 c =
     let s = c .before in

@@ -17,60 +17,42 @@ use Rattle.place.proofs.Ways.{answers, placed-root, placed-note, placed
 use borrow.Author.Needs.{needs}
 use Rattle.place.proofs.place_note.Statement.{statement}
 use Rattle.place.proofs.place_note.Tie as tie
-use Rattle.place.proofs.place_note.Reads as reads
-use Rattle.place.proofs.place_note.Lts as lts
-use Rattle.place.proofs.hear.Reads as hear-reads
-use Rattle.place.proofs.is_bypass.Reads as is-bypass-reads
-use Rattle.place.proofs.refusal.Reads as refusal-reads
-use Rattle.place.proofs.shift_to.Reads as shift-to-reads
-use Rattle.record.proofs.held.first_bad.Reads as first-bad-reads
 
--- src/lib.rt:134:9
 refusal-requires : tie.Need-refusal-requires
 refusal-requires c κs = search needs
 
--- src/lib.rt:134:9
 returns : tie.Need-returns
 returns c = c .refusal .ensures ∙ answers (placed-root _ _ _ (omega arith))
 
--- src/lib.rt:137:9
 refusal-requires-2 : tie.Need-refusal-requires-2
 refusal-requires-2 c κs = search needs
 
--- src/lib.rt:137:9
 returns-2 : tie.Need-returns-2
 returns-2 c = c .refusal2 .ensures ∙ answers (placed-note _ _ _ (omega arith) (omega arith))
 
--- src/lib.rt:139:9
 first-bad-requires : tie.Need-first-bad-requires
 first-bad-requires c κs = search needs
 
--- src/lib.rt:141:9
 refusal-requires-3 : tie.Need-refusal-requires-3
 refusal-requires-3 c κs = search needs
 
--- src/lib.rt:141:9
 returns-3 : tie.Need-returns-3
 returns-3 c =
     let b = c .before .before in
     c .refusal3 .ensures ∙ answers (placed-bad _ _ _ (omega arith) (omega arith) _ (b .first-bad .ensures) (c .before .if3 .taken))
 
--- src/lib.rt:145:8
 is-bypass-requires : tie.Need-is-bypass-requires
 unfolding bytesOf highs ranges
 is-bypass-requires c κs =
     let b = c .before in
     omega (arith, in-its-range (b .before .before .before .args .r) 21 (rw (← b .first-bad .ensures) (c .if3 .left)) (omega arith))
 
--- src/lib.rt:146:21
 cast-hear : tie.Need-cast-hear
 cast-hear c = search needs
 
--- src/lib.rt:146:9
 hear-requires : tie.Need-hear-requires
 hear-requires c κs = rw (u8-reads (c .before .before .before .before .before .before .args .note) (omega arith)) (omega arith)
 
--- src/lib.rt:146:9
 returns-4 : tie.Need-returns-4
 returns-4 c =
     let p = c .before .before in
@@ -79,11 +61,9 @@ returns-4 c =
     rw (u8-reads (a .note) (omega arith)) at (c .hear .ensures)
     ∙ answers (placed-bypass (a .r) (a .root) (a .note) (omega arith) (omega arith) _ (b .first-bad .ensures) (p .before .if3 .left) (sym (p .is-bypass .ensures) ∙ c .before .if4 .taken))
 
--- src/lib.rt:149:9
 refusal-requires-4 : tie.Need-refusal-requires-4
 refusal-requires-4 c κs = search needs
 
--- src/lib.rt:149:9
 returns-5 : tie.Need-returns-5
 returns-5 c =
     let f = c .before .before .before in
@@ -93,7 +73,6 @@ returns-5 c =
     c .refusal4 .ensures
     ∙ answers (placed-fixed (a .r) (a .root) (a .note) (omega arith) (omega arith) _ (b .first-bad .ensures) (p .before .if3 .left) (sym (p .is-bypass .ensures) ∙ f .if4 .left) (c .before .if5 .taken))
 
--- src/lib.rt:151:9
 shift-to-requires : tie.Need-shift-to-requires
 shift-to-requires c κs =
     let f = c .before .before in
@@ -115,19 +94,15 @@ module _ (c : tie.After-shift-to) where
   value-reads : toZ w32 (ofZ w32 (pos note +ℤ c .shift-to .result)) ≡ pos note +ℤ c .shift-to .result
   value-reads = reads-back (pos note +ℤ c .shift-to .result) (omega (arith, near))
 
--- src/lib.rt:152:11
 cast-hear-2 : tie.Need-cast-hear-2
 cast-hear-2 c = search needs
 
--- src/lib.rt:152:10
 add-hear : tie.Need-add-hear
 add-hear c = rw (note-reads c, shift-reads c) (fits (pos (note c) +ℤ c .shift-to .result) (omega (arith, near c)))
 
--- src/lib.rt:152:5
 hear-requires-2 : tie.Need-hear-requires-2
 hear-requires-2 c κs = rw (note-reads c, shift-reads c, value-reads c) (near c)
 
--- src/lib.rt:130:1
 returns-6 : tie.Need-returns-6
 returns-6 c =
     let s = c .before in

@@ -3,10 +3,7 @@ use mathlib.Core.Path.{refl}
 use Rattle.layout.specs.Place.{placed}
 use Rattle.place.proofs.refusal.Statement.{statement}
 use Rattle.place.proofs.refusal.Tie as tie
-use Rattle.place.proofs.refusal.Reads as reads
-use Rattle.place.proofs.refusal.Lts as lts
 
--- src/lib.rt:85:1
 returns : tie.Need-returns
 unfolding placed
 returns c = refl

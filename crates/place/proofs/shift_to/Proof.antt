@@ -11,8 +11,6 @@ use Rattle.place.proofs.Ways.{shift-down, shift-plain}
 use borrow.Author.Needs.{needs}
 use Rattle.place.proofs.shift_to.Statement.{statement}
 use Rattle.place.proofs.shift_to.Tie as tie
-use Rattle.place.proofs.shift_to.Reads as reads
-use Rattle.place.proofs.shift_to.Lts as lts
 
 module _ (c : tie.Start) where
   -- chord root minus source root
@@ -28,32 +26,26 @@ module _ (c : tie.Start) where
   apart-reads : toZ w32 (ofZ w32 (toZ w32 (c .args .root) -ℤ toZ w32 (c .args .r .root))) ≡ apart
   apart-reads = rw (u8-reads (c .args .root) (omega arith), u8-reads (c .args .r .root) (omega arith)) (reads-back apart (omega (arith, near)))
 
--- src/lib.rt:49:18
 cast-shift : tie.Need-cast-shift
 cast-shift c = search needs
 
--- src/lib.rt:49:34
 cast-shift-2 : tie.Need-cast-shift-2
 cast-shift-2 c = search needs
 
--- src/lib.rt:49:17
 sub-shift : tie.Need-sub-shift
 sub-shift c =
     let s = c .before in
     rw (u8-reads (s .args .root) (omega arith), u8-reads (s .args .r .root) (omega arith)) (fits (apart s) (omega (arith, near s)))
 
--- src/lib.rt:51:16
 sub-result : tie.Need-sub-result
 sub-result c = let s = c .before .before in rw (apart-reads s) (fits (apart s -ℤ pos 12) (omega (arith, lower-near s)))
 
--- src/lib.rt:51:9
 returns : tie.Need-returns
 returns c =
     let s = c .before .before in
     rw (apart-reads s, reads-back (apart s -ℤ pos 12) (omega (arith, lower-near s)))
     (sym (shift-down (s .args .r) (s .args .root) (search needs) (c .if1 .taken)), omega (arith, lower-near s))
 
--- src/lib.rt:43:1
 returns-2 : tie.Need-returns-2
 returns-2 c =
     let s = c .before .before in

@@ -3,10 +3,7 @@ use mathlib.Core.Path.{refl}
 use Rattle.layout.specs.Place.{placed}
 use Rattle.place.proofs.silence.Statement.{statement}
 use Rattle.place.proofs.silence.Tie as tie
-use Rattle.place.proofs.silence.Reads as reads
-use Rattle.place.proofs.silence.Lts as lts
 
--- src/lib.rt:97:1
 returns : tie.Need-returns
 unfolding placed
 returns c = refl

@@ -6,9 +6,6 @@ use Rattle.salvage.proofs.Filling.{Filling, filling-start, filling-fits
 use borrow.Author.Needs.{needs}
 use Rattle.salvage.proofs.fill.Statement.{statement}
 use Rattle.salvage.proofs.fill.Tie as tie
-use Rattle.salvage.proofs.fill.Reads as reads
-use Rattle.salvage.proofs.fill.Lts as lts
-use Rattle.salvage.proofs.entry_at.Reads as entry-at-reads
 
 abbrev Inv-loop : tie.InvT-loop
 Inv-loop body list₀ filled₀ i₀ list filled i = Filling body list₀ list filled i
@@ -16,11 +13,9 @@ Inv-loop body list₀ filled₀ i₀ list filled i = Filling body list₀ list f
 abbrev μ-loop : tie.MeasureT-loop
 μ-loop body list₀ filled₀ i₀ list filled i = length body - i
 
--- src/lib.rt:131:5
 loop-holds : tie.Need-loop-holds Inv-loop μ-loop
 loop-holds c = filling-start _ _
 
--- src/lib.rt:132:13
 entry-at-requires : tie.Need-entry-at-requires Inv-loop μ-loop
 entry-at-requires c κs = search needs
 
@@ -28,63 +23,48 @@ entry-at-requires c κs = search needs
 fitting : (c : tie.After-entry-at Inv-loop μ-loop) → 3 * c .before .before .loop .filled + 3 ≤ length (c .before .before .loop .list)
 fitting c = filling-fits _ _ _ _ _ _ _ (c .before .before .loop .inv) (c .entry-at .ensures) (search needs)
 
--- src/lib.rt:133:18
 mul-at : tie.Need-mul-at Inv-loop μ-loop
 mul-at c = omega (arith, fitting c)
 
--- src/lib.rt:134:9
 mul-list : tie.Need-mul-list Inv-loop μ-loop
 mul-list c = omega (arith, fitting c)
 
--- src/lib.rt:134:9
 slice-write-list : tie.Need-slice-write-list Inv-loop μ-loop
 slice-write-list c = omega (arith, fitting c)
 
--- src/lib.rt:135:14
 add-list : tie.Need-add-list Inv-loop μ-loop
 add-list c = omega (arith, fitting c)
 
--- src/lib.rt:135:9
 mul-list-2 : tie.Need-mul-list-2 Inv-loop μ-loop
 mul-list-2 c = omega (arith, fitting c)
 
--- src/lib.rt:135:9
 slice-write-list-2 : tie.Need-slice-write-list-2 Inv-loop μ-loop
 slice-write-list-2 c = rw length-set (omega (arith, fitting c))
 
--- src/lib.rt:136:14
 add-list-2 : tie.Need-add-list-2 Inv-loop μ-loop
 add-list-2 c = omega (arith, fitting c)
 
--- src/lib.rt:136:9
 mul-list-3 : tie.Need-mul-list-3 Inv-loop μ-loop
 mul-list-3 c = omega (arith, fitting c)
 
--- src/lib.rt:136:9
 slice-write-list-3 : tie.Need-slice-write-list-3 Inv-loop μ-loop
 slice-write-list-3 c = rw (length-set, length-set) (omega (arith, fitting c))
 
--- src/lib.rt:137:9
 add-i : tie.Need-add-i Inv-loop μ-loop
 add-i c = search needs
 
--- src/lib.rt:138:9
 add-filled : tie.Need-add-filled Inv-loop μ-loop
 add-filled c = omega (arith, fitting (c .before))
 
--- src/lib.rt:131:5
 loop-less : tie.Need-loop-less Inv-loop μ-loop
 loop-less c = search needs
 
--- src/lib.rt:131:5
 loop-again : tie.Need-loop-again Inv-loop μ-loop
 loop-again c = filling-turn _ _ _ _ _ _ _ (c .before .before .before .loop .inv) (c .before .entry-at .ensures) (search needs)
 
--- src/lib.rt:124:1
 same-length : tie.Need-same-length Inv-loop μ-loop
 same-length c = c .before .loop .inv .long
 
--- src/lib.rt:124:1
 returns : tie.Need-returns Inv-loop μ-loop
 returns c = filling-end _ _ _ _ _ (c .before .loop .inv) (search needs)
 

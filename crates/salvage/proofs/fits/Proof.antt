@@ -12,9 +12,6 @@ use Rattle.salvage.proofs.Room.{few-enough}
 use borrow.Author.Needs.{needs}
 use Rattle.salvage.proofs.fits.Statement.{statement}
 use Rattle.salvage.proofs.fits.Tie as tie
-use Rattle.salvage.proofs.fits.Reads as reads
-use Rattle.salvage.proofs.fits.Lts as lts
-use Rattle.salvage.proofs.entry_at.Reads as entry-at-reads
 
 abbrev Inv-loop : tie.InvT-loop
 Inv-loop body room n₀ i₀ n i = (i ≤ length body) × (n ≤ i) × (n + length (left body i) ≡ length (salvage body))
@@ -22,35 +19,27 @@ Inv-loop body room n₀ i₀ n i = (i ≤ length body) × (n ≤ i) × (n + leng
 abbrev μ-loop : tie.MeasureT-loop
 μ-loop body room n₀ i₀ n i = length body - i
 
--- src/lib.rt:111:9
 returns : tie.Need-returns Inv-loop μ-loop
 returns c = sym (le-leb _ _ (few-enough _ _ (search needs)))
 
--- src/lib.rt:115:5
 loop-holds : tie.Need-loop-holds Inv-loop μ-loop
 loop-holds c = (search needs, search needs, rw (left-start (c .before .before .args .body .now)) (omega arith))
 
--- src/lib.rt:116:13
 entry-at-requires : tie.Need-entry-at-requires Inv-loop μ-loop
 entry-at-requires c κs = search needs
 
--- src/lib.rt:117:9
 add-i : tie.Need-add-i Inv-loop μ-loop
 add-i c = search needs
 
--- src/lib.rt:118:9
 add-n : tie.Need-add-n Inv-loop μ-loop
 add-n c = search needs
 
--- src/lib.rt:115:5
 loop-less : tie.Need-loop-less Inv-loop μ-loop
 loop-less c = search needs
 
--- src/lib.rt:115:5
 loop-again : tie.Need-loop-again Inv-loop μ-loop
 loop-again c = (search needs, search needs, omega (arith, ap length (c .before .entry-at .ensures .is)))
 
--- src/lib.rt:107:1
 returns-2 : tie.Need-returns-2 Inv-loop μ-loop
 returns-2 c =
     let s = c .before .before .before .before .args .body .now in

@@ -3,50 +3,37 @@ use Rattle.salvage.proofs.Letters.{unlike₀, unlike₁, unlike₂, ali
 use borrow.Author.Needs.{needs}
 use Rattle.salvage.proofs.is_cseg.Statement.{statement}
 use Rattle.salvage.proofs.is_cseg.Tie as tie
-use Rattle.salvage.proofs.is_cseg.Reads as reads
-use Rattle.salvage.proofs.is_cseg.Lts as lts
 
--- src/lib.rt:23:8
 shared-slice-read-if1 : tie.Need-shared-slice-read-if1
 shared-slice-read-if1 c = search needs
 
--- src/lib.rt:24:9
 returns : tie.Need-returns
 returns c = let a = c .before .before .args in unlike₀ (a .k) (a .s .now) (c .if1 .taken)
 
--- src/lib.rt:26:10
 add-if2 : tie.Need-add-if2
 add-if2 c = search needs
 
--- src/lib.rt:26:8
 shared-slice-read-if2 : tie.Need-shared-slice-read-if2
 shared-slice-read-if2 c = search needs
 
--- src/lib.rt:27:9
 returns-2 : tie.Need-returns-2
 returns-2 c = let a = c .before .before .before .before .args in unlike₁ (a .k) (a .s .now) (c .if2 .taken)
 
--- src/lib.rt:29:10
 add-if3 : tie.Need-add-if3
 add-if3 c = search needs
 
--- src/lib.rt:29:8
 shared-slice-read-if3 : tie.Need-shared-slice-read-if3
 shared-slice-read-if3 c = search needs
 
--- src/lib.rt:30:9
 returns-3 : tie.Need-returns-3
 returns-3 c = let a = c .before .before .before .before .before .before .args in unlike₂ (a .k) (a .s .now) (c .if3 .taken)
 
--- src/lib.rt:32:7
 add-result : tie.Need-add-result
 add-result c = search needs
 
--- src/lib.rt:32:5
 shared-slice-read-result : tie.Need-shared-slice-read-result
 shared-slice-read-result c = search needs
 
--- src/lib.rt:19:1
 returns-4 : tie.Need-returns-4
 returns-4 c =
     let r = c .before .before in

@@ -5,32 +5,22 @@ use Rattle.salvage.proofs.Listing.{has-room, too-long, no-room, all-lis
 use borrow.Author.Needs.{needs}
 use Rattle.salvage.proofs.list_salvage.Statement.{statement}
 use Rattle.salvage.proofs.list_salvage.Tie as tie
-use Rattle.salvage.proofs.list_salvage.Reads as reads
-use Rattle.salvage.proofs.list_salvage.Lts as lts
-use Rattle.salvage.proofs.fill.Reads as fill-reads
-use Rattle.salvage.proofs.fits.Reads as fits-reads
 
--- src/lib.rt:149:9
 returns : tie.Need-returns
 returns c = too-long _ _ (search needs)
 
--- src/lib.rt:155:9
 fits-requires : tie.Need-fits-requires
 fits-requires c κs = search needs
 
--- src/lib.rt:156:9
 returns-2 : tie.Need-returns-2
 returns-2 c = no-room _ _ (search needs) (leb-false _ _ (sym (c .before .fits2 .ensures) ∙ not-true _ (c .if2 .taken)))
 
--- src/lib.rt:162:9
 fill-requires : tie.Need-fill-requires
 fill-requires c κs = has-room _ _ (sym (c .before .before .fits2 .ensures) ∙ not-false _ (c .before .if2 .left))
 
--- src/lib.rt:145:1
 same-length : tie.Need-same-length
 same-length c = search needs
 
--- src/lib.rt:145:1
 returns-3 : tie.Need-returns-3
 returns-3 c =
     let f = c .before .before in

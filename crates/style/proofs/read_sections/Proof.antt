@@ -12,11 +12,6 @@ use Rattle.style.proofs.CasmLaws.{casm-start, casm-next, ended-casm}
 use borrow.Author.Needs.{needs}
 use Rattle.style.proofs.read_sections.Statement.{statement}
 use Rattle.style.proofs.read_sections.Tie as tie
-use Rattle.style.proofs.read_sections.Reads as reads
-use Rattle.style.proofs.read_sections.Lts as lts
-use Rattle.scan.proofs.word_at.Reads as word-at-reads
-use Rattle.style.proofs.casm_after.Reads as casm-after-reads
-use Rattle.style.proofs.section_turn.Reads as section-turn-reads
 
 abbrev Inv-loop : tie.InvT-loop
 Inv-loop file start at₀ n₀ casm₀ at n casm = Walked file n at × (CasmAt file n casm × (sectionsRun file ≡ run (sectionTurn file) n (length file)))
@@ -24,28 +19,22 @@ Inv-loop file start at₀ n₀ casm₀ at n casm = Walked file n at × (CasmAt f
 abbrev μ-loop : tie.MeasureT-loop
 μ-loop file start at₀ n₀ casm₀ at n casm = length file - n
 
--- src/lib.rt:94:22
 word-at-requires : tie.Need-word-at-requires Inv-loop μ-loop
 word-at-requires c κs = search needs
 
--- src/lib.rt:94:17
 add-start : tie.Need-add-start Inv-loop μ-loop
 add-start c = search needs
 
--- src/lib.rt:98:5
 loop-holds : tie.Need-loop-holds Inv-loop μ-loop
 unfolding sectionsRun
 loop-holds c = (walk-start _ _ (omega (arith, c .word-at .ensures .0)) (c .before .before .pre), (casm-start _, refl))
 
--- src/lib.rt:99:15
 section-turn-requires : tie.Need-section-turn-requires Inv-loop μ-loop
 section-turn-requires c κs = (omega (arith, c .before .word-at .ensures .0), c .loop .inv .0)
 
--- src/lib.rt:100:27
 enum-known-number : tie.Need-enum-known-number Inv-loop μ-loop
 enum-known-number c = search needs
 
--- src/lib.rt:101:17
 returns : tie.Need-returns Inv-loop μ-loop
 returns c =
     let l = c .before .before .before .before .loop in
@@ -54,11 +43,9 @@ returns c =
       casm = λ n e. not-ended _ _ n e;
     }
 
--- src/lib.rt:108:26
 enum-told : tie.Need-enum-told Inv-loop μ-loop
 enum-told c = search needs
 
--- src/lib.rt:107:17
 returns-2 : tie.Need-returns-2 Inv-loop μ-loop
 returns-2 c =
     let l = c .before .before .before .loop in
@@ -70,37 +57,29 @@ returns-2 c =
 enum-told-2 : tie.Need-enum-told-2 Inv-loop μ-loop
 enum-told-2 c = search needs
 
--- src/lib.rt:114:9
 casm-after-requires : tie.Need-casm-after-requires Inv-loop μ-loop
 casm-after-requires c κs = omega (arith, section-more _ _ _ (sym (c .before .before .section-turn .ensures) ∙ c .enum-told2 .given .1) .within)
 
--- src/lib.rt:115:14
 add-at : tie.Need-add-at Inv-loop μ-loop
 add-at c = omega (arith, section-more _ _ _ (sym (c .before .before .before .section-turn .ensures) ∙ c .before .enum-told2 .given .1) .within)
 
--- src/lib.rt:115:43
 add-word-at : tie.Need-add-word-at Inv-loop μ-loop
 add-word-at c = omega (arith, section-more _ _ _ (sym (c .before .before .before .section-turn .ensures) ∙ c .before .enum-told2 .given .1) .within)
 
--- src/lib.rt:115:23
 word-at-requires-2 : tie.Need-word-at-requires-2 Inv-loop μ-loop
 word-at-requires-2 c κs = omega (arith, section-more _ _ _ (sym (c .before .before .before .section-turn .ensures) ∙ c .before .enum-told2 .given .1) .within)
 
--- src/lib.rt:115:14
 add-at-2 : tie.Need-add-at-2 Inv-loop μ-loop
 add-at-2 c =
     let d = c .before .before in
     omega (arith, section-more _ _ _ (sym (d .before .before .section-turn .ensures) ∙ d .enum-told2 .given .1) .within, c .word-at2 .ensures .0)
 
--- src/lib.rt:116:9
 add-n : tie.Need-add-n Inv-loop μ-loop
 add-n c = search needs
 
--- src/lib.rt:98:5
 loop-less : tie.Need-loop-less Inv-loop μ-loop
 loop-less c = omega (arith, c .before .before .before .before .before .loop .inv .0)
 
--- src/lib.rt:98:5
 loop-again : tie.Need-loop-again Inv-loop μ-loop
 loop-again c =
     let d = c .before .before in

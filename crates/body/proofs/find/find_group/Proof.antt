@@ -5,24 +5,16 @@ use Rattle.body.proofs.FindLaws.{group-refused, group-missing, group-fo
 use borrow.Author.Needs.{needs}
 use Rattle.body.proofs.find.find_group.Statement.{statement}
 use Rattle.body.proofs.find.find_group.Tie as tie
-use Rattle.body.proofs.find.find_group.Reads as reads
-use Rattle.body.proofs.find.find_group.Lts as lts
-use Rattle.body.proofs.find.standing_at.Reads as standing-at-reads
-use Rattle.body.proofs.survey.read_groups.Reads as read-groups-reads
 
--- src/find.rt:49:9
 read-groups-requires : tie.Need-read-groups-requires
 read-groups-requires c κs = search needs
 
--- src/find.rt:55:22
 enum-known-run : tie.Need-enum-known-run
 enum-known-run c = search needs
 
--- src/find.rt:56:20
 enum-known-run-2 : tie.Need-enum-known-run-2
 enum-known-run-2 c = search needs
 
--- src/find.rt:58:17
 returns : tie.Need-returns
 returns c =
     let g = c .before .before .before .before .before .before .before .read-groups in
@@ -30,7 +22,6 @@ returns c =
     let k = g .ensures .known _ told in
     sym (group-missing _ _ (sym (g .ensures .run) ∙ told) _ (omega arith))
 
--- src/find.rt:60:43
 mul-standing-at : tie.Need-mul-standing-at
 mul-standing-at c =
     let g = c .before .before .before .before .before .before .before .read-groups in
@@ -38,7 +29,6 @@ mul-standing-at c =
     let k = g .ensures .known _ told in
     omega (arith, k .0)
 
--- src/find.rt:60:43
 array-read-standing-at : tie.Need-array-read-standing-at
 array-read-standing-at c =
     let g = c .before .before .before .before .before .before .before .read-groups in
@@ -46,7 +36,6 @@ array-read-standing-at c =
     let k = g .ensures .known _ told in
     omega (arith, k .0)
 
--- src/find.rt:60:58
 mul-standing-at-2 : tie.Need-mul-standing-at-2
 mul-standing-at-2 c =
     let g = c .before .before .before .before .before .before .before .read-groups in
@@ -54,7 +43,6 @@ mul-standing-at-2 c =
     let k = g .ensures .known _ told in
     omega (arith, k .0)
 
--- src/find.rt:60:58
 array-read-standing-at-2 : tie.Need-array-read-standing-at-2
 array-read-standing-at-2 c =
     let g = c .before .before .before .before .before .before .before .read-groups in
@@ -62,7 +50,6 @@ array-read-standing-at-2 c =
     let k = g .ensures .known _ told in
     omega (arith, k .0)
 
--- src/find.rt:60:74
 mul-standing-at-3 : tie.Need-mul-standing-at-3
 mul-standing-at-3 c =
     let g = c .before .before .before .before .before .before .before .read-groups in
@@ -70,7 +57,6 @@ mul-standing-at-3 c =
     let k = g .ensures .known _ told in
     omega (arith, k .0)
 
--- src/find.rt:60:74
 array-read-standing-at-3 : tie.Need-array-read-standing-at-3
 array-read-standing-at-3 c =
     let g = c .before .before .before .before .before .before .before .read-groups in
@@ -78,7 +64,6 @@ array-read-standing-at-3 c =
     let k = g .ensures .known _ told in
     omega (arith, k .0)
 
--- src/find.rt:60:17
 standing-at-requires : tie.Need-standing-at-requires
 standing-at-requires c κs =
     let g = c .before .before .before .before .before .before .before .read-groups in
@@ -86,11 +71,9 @@ standing-at-requires c κs =
     let k = g .ensures .known _ told in
     (entry-within _ _ (sym (g .ensures .run) ∙ told) _ _ _ (k .1 .0) (k .1 .1) _ (omega arith), entry-sound _ _ (sym (g .ensures .run) ∙ told) _ _ _ (k .1 .0) (k .1 .1) _ (omega arith))
 
--- src/find.rt:46:1
 returns-2 : tie.Need-returns-2
 returns-2 c = sym (group-refused _ _ _ (sym (c .before .before .before .before .before .before .read-groups .ensures .run) ∙ c .before .run .given .1) _)
 
--- src/find.rt:46:1
 returns-3 : tie.Need-returns-3
 returns-3 c =
     let g = c .before .before .before .before .before .before .before .before .read-groups in

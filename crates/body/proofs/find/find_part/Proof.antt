@@ -5,25 +5,16 @@ use Rattle.body.proofs.FindLaws.{part-refused, part-missing, part-found
 use borrow.Author.Needs.{needs}
 use Rattle.body.proofs.find.find_part.Statement.{statement}
 use Rattle.body.proofs.find.find_part.Tie as tie
-use Rattle.body.proofs.find.find_part.Reads as reads
-use Rattle.body.proofs.find.find_part.Lts as lts
-use Rattle.body.proofs.find.group_named.Reads as group-named-reads
-use Rattle.body.proofs.find.standing_at.Reads as standing-at-reads
-use Rattle.body.proofs.survey.read_groups.Reads as read-groups-reads
 
--- src/find.rt:87:9
 read-groups-requires : tie.Need-read-groups-requires
 read-groups-requires c κs = search needs
 
--- src/find.rt:93:22
 enum-known-run : tie.Need-enum-known-run
 enum-known-run c = search needs
 
--- src/find.rt:94:20
 enum-known-run-2 : tie.Need-enum-known-run-2
 enum-known-run-2 c = search needs
 
--- src/find.rt:95:17
 group-named-requires : tie.Need-group-named-requires
 group-named-requires c κs =
     let g = c .before .before .before .before .before .before .before .read-groups in
@@ -31,7 +22,6 @@ group-named-requires c κs =
     let k = g .ensures .known _ told in
     (k .0, k .1 .0)
 
--- src/find.rt:97:17
 returns : tie.Need-returns
 returns c =
     let g = c .before .before .before .before .before .before .before .before .before .read-groups in
@@ -39,7 +29,6 @@ returns c =
     let k = g .ensures .known _ told in
     sym (part-missing _ _ (sym (g .ensures .run) ∙ told) _ _ (c .before .group-named .ensures) (omega arith))
 
--- src/find.rt:99:43
 mul-standing-at : tie.Need-mul-standing-at
 mul-standing-at c =
     let g = c .before .before .before .before .before .before .before .before .before .read-groups in
@@ -47,7 +36,6 @@ mul-standing-at c =
     let k = g .ensures .known _ told in
     omega (arith, k .0)
 
--- src/find.rt:99:43
 array-read-standing-at : tie.Need-array-read-standing-at
 array-read-standing-at c =
     let g = c .before .before .before .before .before .before .before .before .before .read-groups in
@@ -55,7 +43,6 @@ array-read-standing-at c =
     let k = g .ensures .known _ told in
     omega (arith, k .0)
 
--- src/find.rt:99:54
 mul-standing-at-2 : tie.Need-mul-standing-at-2
 mul-standing-at-2 c =
     let g = c .before .before .before .before .before .before .before .before .before .read-groups in
@@ -63,7 +50,6 @@ mul-standing-at-2 c =
     let k = g .ensures .known _ told in
     omega (arith, k .0)
 
--- src/find.rt:99:54
 array-read-standing-at-2 : tie.Need-array-read-standing-at-2
 array-read-standing-at-2 c =
     let g = c .before .before .before .before .before .before .before .before .before .read-groups in
@@ -71,7 +57,6 @@ array-read-standing-at-2 c =
     let k = g .ensures .known _ told in
     omega (arith, k .0)
 
--- src/find.rt:99:66
 mul-standing-at-3 : tie.Need-mul-standing-at-3
 mul-standing-at-3 c =
     let g = c .before .before .before .before .before .before .before .before .before .read-groups in
@@ -79,7 +64,6 @@ mul-standing-at-3 c =
     let k = g .ensures .known _ told in
     omega (arith, k .0)
 
--- src/find.rt:99:66
 array-read-standing-at-3 : tie.Need-array-read-standing-at-3
 array-read-standing-at-3 c =
     let g = c .before .before .before .before .before .before .before .before .before .read-groups in
@@ -87,7 +71,6 @@ array-read-standing-at-3 c =
     let k = g .ensures .known _ told in
     omega (arith, k .0)
 
--- src/find.rt:99:17
 standing-at-requires : tie.Need-standing-at-requires
 standing-at-requires c κs =
     let g = c .before .before .before .before .before .before .before .before .before .read-groups in
@@ -95,11 +78,9 @@ standing-at-requires c κs =
     let k = g .ensures .known _ told in
     (entry-within _ _ (sym (g .ensures .run) ∙ told) _ _ _ (k .1 .0) (k .1 .1) _ (omega arith), entry-sound _ _ (sym (g .ensures .run) ∙ told) _ _ _ (k .1 .0) (k .1 .1) _ (omega arith))
 
--- src/find.rt:84:1
 returns-2 : tie.Need-returns-2
 returns-2 c = sym (part-refused _ _ _ (sym (c .before .before .before .before .before .before .read-groups .ensures .run) ∙ c .before .run .given .1) _)
 
--- src/find.rt:84:1
 returns-3 : tie.Need-returns-3
 returns-3 c =
     let g = c .before .before .before .before .before .before .before .before .before .before .read-groups in

@@ -11,8 +11,6 @@ use Rattle.layout.proofs.Scans.{first-end, first-here, first-next}
 use borrow.Author.Needs.{needs}
 use Rattle.body.proofs.find.find_row.Statement.{statement}
 use Rattle.body.proofs.find.find_row.Tie as tie
-use Rattle.body.proofs.find.find_row.Reads as reads
-use Rattle.body.proofs.find.find_row.Lts as lts
 
 abbrev Inv-loop : tie.InvT-loop
 Inv-loop s p n channel i₀ i = (i ≤ n) × (ctabOf firstEdition s p n channel ≡ first (λ k. eqb (ctabChannel firstEdition s p k) channel) i n)
@@ -20,50 +18,40 @@ Inv-loop s p n channel i₀ i = (i ≤ n) × (ctabOf firstEdition s p n channel 
 abbrev μ-loop : tie.MeasureT-loop
 μ-loop s p n channel i₀ i = n - i
 
--- src/find.rt:111:5
 loop-holds : tie.Need-loop-holds Inv-loop μ-loop
 unfolding ctabOf
 loop-holds c = (search needs, refl)
 
--- src/find.rt:112:18
 mul-if1 : tie.Need-mul-if1 Inv-loop μ-loop
 mul-if1 c = search needs
 
--- src/find.rt:112:14
 add-if1 : tie.Need-add-if1 Inv-loop μ-loop
 add-if1 c = search needs
 
--- src/find.rt:112:14
 add-if1-2 : tie.Need-add-if1-2 Inv-loop μ-loop
 add-if1-2 c = search needs
 
--- src/find.rt:112:12
 shared-slice-read-if1 : tie.Need-shared-slice-read-if1 Inv-loop μ-loop
 shared-slice-read-if1 c = search needs
 
--- src/find.rt:113:13
 returns : tie.Need-returns Inv-loop μ-loop
 unfolding ctabChannel
 returns c =
     let l = c .before .before .before .loop in
     sym (l .inv .1 ∙ first-here _ _ _ (omega arith) (eq-eqb _ _ (c .if1 .taken)))
 
--- src/find.rt:115:9
 add-i : tie.Need-add-i Inv-loop μ-loop
 add-i c = search needs
 
--- src/find.rt:111:5
 loop-less : tie.Need-loop-less Inv-loop μ-loop
 loop-less c = search needs
 
--- src/find.rt:111:5
 loop-again : tie.Need-loop-again Inv-loop μ-loop
 unfolding ctabChannel
 loop-again c =
     let l = c .before .before .before .loop in
     (omega arith, l .inv .1 ∙ first-next _ _ _ (omega arith) (ne-eqb _ _ (c .if1 .left)))
 
--- src/find.rt:106:1
 returns-2 : tie.Need-returns-2 Inv-loop μ-loop
 returns-2 c =
     let l = c .before .loop in

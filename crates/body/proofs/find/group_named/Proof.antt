@@ -10,10 +10,6 @@ use Rattle.body.proofs.FindLaws.{hasPart, named-start, named-here, name
 use borrow.Author.Needs.{needs}
 use Rattle.body.proofs.find.group_named.Statement.{statement}
 use Rattle.body.proofs.find.group_named.Tie as tie
-use Rattle.body.proofs.find.group_named.Reads as reads
-use Rattle.body.proofs.find.group_named.Lts as lts
-use Rattle.names.proofs.has_name.Reads as has-name-reads
-use Rattle.scan.proofs.word_at.Reads as word-at-reads
 
 abbrev Inv-loop : tie.InvT-loop
 Inv-loop s n places name k₀ k = (k ≤ n) × (groupNamed s n name ≡ first (hasPart s name) k n)
@@ -21,73 +17,57 @@ Inv-loop s n places name k₀ k = (k ≤ n) × (groupNamed s n name ≡ first (h
 abbrev μ-loop : tie.MeasureT-loop
 μ-loop s n places name k₀ k = n - k
 
--- src/find.rt:72:5
 loop-holds : tie.Need-loop-holds Inv-loop μ-loop
 loop-holds c = (search needs, named-start _ _ _)
 
--- src/find.rt:73:21
 mul-start : tie.Need-mul-start Inv-loop μ-loop
 mul-start c = search needs
 
--- src/find.rt:73:21
 element-copy-out-start : tie.Need-element-copy-out-start Inv-loop μ-loop
 element-copy-out-start c = search needs
 
--- src/find.rt:73:21
 add-start : tie.Need-add-start Inv-loop μ-loop
 add-start c = omega (arith, text-fits (c .before .before .before .before .before .args .s .now) (c .before .before .before .before .before .args .places .now) (c .before .before .before .before .before .args .n) (c .before .before .loop .k) (c .before .before .before .before .before .pre .1) (omega arith))
 
--- src/find.rt:74:44
 sub-word-at : tie.Need-sub-word-at Inv-loop μ-loop
 sub-word-at c = search needs
 
--- src/find.rt:74:27
 word-at-requires : tie.Need-word-at-requires Inv-loop μ-loop
 word-at-requires c κs = omega (arith, text-fits (c .before .before .before .before .before .args .s .now) (c .before .before .before .before .before .args .places .now) (c .before .before .before .before .before .args .n) (c .before .before .loop .k) (c .before .before .before .before .before .pre .1) (omega arith))
 
--- src/find.rt:74:19
 add-end : tie.Need-add-end Inv-loop μ-loop
 add-end c = omega (arith, text-fits (c .before .before .before .before .before .before .args .s .now) (c .before .before .before .before .before .before .args .places .now) (c .before .before .before .before .before .before .args .n) (c .before .before .before .loop .k) (c .before .before .before .before .before .before .pre .1) (omega arith), c .word-at .ensures .0)
 
--- src/find.rt:75:28
 sub-has-name : tie.Need-sub-has-name Inv-loop μ-loop
 sub-has-name c = search needs
 
--- src/find.rt:75:28
 part-has-name-start : tie.Need-part-has-name-start Inv-loop μ-loop
 part-has-name-start c = search needs
 
--- src/find.rt:75:28
 part-has-name-end : tie.Need-part-has-name-end Inv-loop μ-loop
 part-has-name-end c = omega (arith, text-fits (c .before .before .before .before .before .before .args .s .now) (c .before .before .before .before .before .before .args .places .now) (c .before .before .before .before .before .before .args .n) (c .before .before .before .loop .k) (c .before .before .before .before .before .before .pre .1) (omega arith), c .word-at .ensures .0)
 
--- src/find.rt:75:12
 has-name-requires : tie.Need-has-name-requires Inv-loop μ-loop
 has-name-requires c κs = search needs
 
--- src/find.rt:76:13
 returns : tie.Need-returns Inv-loop μ-loop
 returns c =
     let r = c .before .before .before .before .before .before .before .before .before in
     let l = c .before .before .before .before .before .before .loop in
     named-here _ _ _ _ (l .inv .1) _ (text-part _ _ _ _ (r .pre .1) (omega arith) _ (c .before .before .before .word-at .ensures .0)) (omega arith) (sym (c .before .has-name .ensures) ∙ c .if1 .taken)
 
--- src/find.rt:78:9
 add-k : tie.Need-add-k Inv-loop μ-loop
 add-k c = search needs
 
--- src/find.rt:72:5
 loop-less : tie.Need-loop-less Inv-loop μ-loop
 loop-less c = search needs
 
--- src/find.rt:72:5
 loop-again : tie.Need-loop-again Inv-loop μ-loop
 loop-again c =
     let r = c .before .before .before .before .before .before .before .before .before in
     let l = c .before .before .before .before .before .before .loop in
     (omega arith, named-next _ _ _ _ (l .inv .1) _ (text-part _ _ _ _ (r .pre .1) (omega arith) _ (c .before .before .before .word-at .ensures .0)) (omega arith) (sym (c .before .has-name .ensures) ∙ c .if1 .left))
 
--- src/find.rt:67:1
 returns-2 : tie.Need-returns-2 Inv-loop μ-loop
 returns-2 c = named-none _ _ _ _ (c .before .loop .inv .1) (omega arith)
 

@@ -7,63 +7,49 @@ use Rattle.body.proofs.FindLaws.{standing-is}
 use borrow.Author.Needs.{needs}
 use Rattle.body.proofs.find.standing_at.Statement.{statement}
 use Rattle.body.proofs.find.standing_at.Tie as tie
-use Rattle.body.proofs.find.standing_at.Reads as reads
-use Rattle.body.proofs.find.standing_at.Lts as lts
-use Rattle.scan.proofs.word_at.Reads as word-at-reads
 
--- src/find.rt:31:35
 add-word-at : tie.Need-add-word-at
 add-word-at c = search needs
 
--- src/find.rt:31:9
 word-at-requires : tie.Need-word-at-requires
 word-at-requires c κs =
     let a = c .before in
     let g = group-there (a .args .s .now) 0 (a .args .at) (word (a .args .s .now) (a .args .at + 12)) (a .args .records) (a .args .seconds) (a .pre .0) (a .pre .1) in
     omega (arith, g .1 .0, g .1 .1)
 
--- src/find.rt:32:17
 add-ctabs : tie.Need-add-ctabs
 add-ctabs c = search needs
 
--- src/find.rt:32:17
 add-ctabs-2 : tie.Need-add-ctabs-2
 add-ctabs-2 c = search needs
 
--- src/find.rt:35:36
 add-word-at-2 : tie.Need-add-word-at-2
 add-word-at-2 c = search needs
 
--- src/find.rt:35:19
 word-at-requires-2 : tie.Need-word-at-requires-2
 word-at-requires-2 c κs =
     let a = c .before .before in
     let g = group-there (a .args .s .now) 0 (a .args .at) (word (a .args .s .now) (a .args .at + 12)) (a .args .records) (a .args .seconds) (a .pre .0) (a .pre .1) in
     omega (arith, g .1 .0, g .1 .1)
 
--- src/find.rt:35:15
 add-t9 : tie.Need-add-t9
 add-t9 c = search needs
 
--- src/find.rt:36:15
 add-t10 : tie.Need-add-t10
 add-t10 c = search needs
 
--- src/find.rt:40:24
 mul-t11 : tie.Need-mul-t11
 mul-t11 c =
     let a = c .before .before .before in
     let g = group-there (a .args .s .now) 0 (a .args .at) (word (a .args .s .now) (a .args .at + 12)) (a .args .records) (a .args .seconds) (a .pre .0) (a .pre .1) in
     omega (arith, g .1 .0, g .1 .1)
 
--- src/find.rt:40:16
 add-t12 : tie.Need-add-t12
 add-t12 c =
     let a = c .before .before .before in
     let g = group-there (a .args .s .now) 0 (a .args .at) (word (a .args .s .now) (a .args .at + 12)) (a .args .records) (a .args .seconds) (a .pre .0) (a .pre .1) in
     omega (arith, g .1 .0, g .1 .1, c .before .word-at .ensures .0)
 
--- src/find.rt:27:1
 returns : tie.Need-returns
 returns c = standing-is _ _ _ _ _ _ (c .before .before .before .pre .1) (c .before .word-at .ensures .0) (c .word-at2 .ensures .0)
 

@@ -5,59 +5,41 @@ use Rattle.body.proofs.TurnLaws.{turned-end, turned-head, turned-many, 
 use borrow.Author.Needs.{needs}
 use Rattle.body.proofs.survey.group_turn.Statement.{statement}
 use Rattle.body.proofs.survey.group_turn.Tie as tie
-use Rattle.body.proofs.survey.group_turn.Reads as reads
-use Rattle.body.proofs.survey.group_turn.Lts as lts
-use Rattle.body.proofs.survey.ending.Reads as ending-reads
-use Rattle.body.proofs.survey.is_named_before.Reads as is-named-before-reads
-use Rattle.group.proofs.judge_contents.Reads as judge-contents-reads
-use Rattle.scan.proofs.head_fault.Reads as head-fault-reads
-use Rattle.scan.proofs.word_at.Reads as word-at-reads
 
--- src/survey.rt:64:9
 ending-requires : tie.Need-ending-requires
 ending-requires c κs = search needs
 
--- src/survey.rt:64:9
 returns : tie.Need-returns
 returns c = turned-end _ _ _ (c .before .before .before .pre .0) _ (c .before .if1 .taken) (c .ending .ensures)
 
--- src/survey.rt:66:9
 head-fault-requires : tie.Need-head-fault-requires
 head-fault-requires c κs = search needs
 
--- src/survey.rt:68:9
 ending-requires-2 : tie.Need-ending-requires-2
 ending-requires-2 c κs = search needs
 
--- src/survey.rt:68:9
 returns-2 : tie.Need-returns-2
 returns-2 c =
     let f = c .before .before in
     turned-head _ _ _ (f .before .before .before .pre .0) _ (f .before .if1 .left) _ (f .head-fault .ensures) (c .before .if2 .taken) (c .ending2 .ensures)
 
--- src/survey.rt:71:9
 ending-requires-3 : tie.Need-ending-requires-3
 ending-requires-3 c κs = search needs
 
--- src/survey.rt:71:9
 returns-3 : tie.Need-returns-3
 returns-3 c =
     let f = c .before .before .before in
     turned-many _ _ _ (f .before .before .before .pre .0) _ (f .before .if1 .left) _ (f .head-fault .ensures) (c .before .before .if2 .left) (c .before .if3 .taken) (c .ending3 .ensures)
 
--- src/survey.rt:73:35
 add-word-at : tie.Need-add-word-at
 add-word-at c = search needs
 
--- src/survey.rt:73:9
 word-at-requires : tie.Need-word-at-requires
 word-at-requires c κs = omega (arith, within _ _ _ (c .before .before .head-fault .ensures) (c .before .if2 .left))
 
--- src/survey.rt:75:9
 ending-requires-4 : tie.Need-ending-requires-4
 ending-requires-4 c κs = search needs
 
--- src/survey.rt:75:9
 returns-4 : tie.Need-returns-4
 returns-4 c =
     let w = c .before .before in
@@ -65,44 +47,36 @@ returns-4 c =
     let a = f .before .before .before in
     turned-empty _ _ _ (a .pre .0) _ (f .before .if1 .left) _ (f .head-fault .ensures) (w .before .before .if2 .left) (omega arith) (a .pre .1 .0) _ (w .word-at .ensures .0) (c .before .if4 .taken) (c .ending4 .ensures)
 
--- src/survey.rt:77:17
 add-start : tie.Need-add-start
 add-start c = search needs
 
--- src/survey.rt:78:15
 add-end : tie.Need-add-end
 add-end c = search needs
 
--- src/survey.rt:79:33
 sub-judge-contents : tie.Need-sub-judge-contents
 sub-judge-contents c =
     let w = c .before in
     let f = w .before .before .before in
     omega (arith, within _ _ _ (f .head-fault .ensures) (w .before .before .if2 .left))
 
--- src/survey.rt:79:33
 part-judge-contents-start : tie.Need-part-judge-contents-start
 part-judge-contents-start c =
     let w = c .before in
     let f = w .before .before .before in
     omega (arith, within _ _ _ (f .head-fault .ensures) (w .before .before .if2 .left))
 
--- src/survey.rt:79:33
 part-judge-contents-end : tie.Need-part-judge-contents-end
 part-judge-contents-end c =
     let w = c .before in
     let f = w .before .before .before in
     omega (arith, within _ _ _ (f .head-fault .ensures) (w .before .before .if2 .left), w .word-at .ensures .0)
 
--- src/survey.rt:79:11
 judge-contents-requires : tie.Need-judge-contents-requires
 judge-contents-requires c κs = search needs
 
--- src/survey.rt:80:25
 enum-known-number : tie.Need-enum-known-number
 enum-known-number c = search needs
 
--- src/survey.rt:80:72
 add-t26 : tie.Need-add-t26
 add-t26 c =
     let j = c .before .before .before in
@@ -113,15 +87,12 @@ add-t26 c =
     (c .before .number .given .0 .0) (c .before .number .given .0 .1 .0) (sym (j .judge-contents .ensures) ∙ c .before .number .given .1) in
     omega arith
 
--- src/survey.rt:80:43
 ending-requires-5 : tie.Need-ending-requires-5
 ending-requires-5 c κs = search needs
 
--- src/survey.rt:81:23
 enum-known-text : tie.Need-enum-known-text
 enum-known-text c = search needs
 
--- src/survey.rt:82:16
 is-named-before-requires : tie.Need-is-named-before-requires
 is-named-before-requires c κs =
     let j = c .before .before .before in
@@ -136,11 +107,9 @@ is-named-before-requires c κs =
       ),
     )
 
--- src/survey.rt:83:17
 ending-requires-6 : tie.Need-ending-requires-6
 ending-requires-6 c κs = search needs
 
--- src/survey.rt:83:17
 returns-5 : tie.Need-returns-5
 returns-5 c =
     let j = c .before .before .before .before .before .before in
@@ -150,7 +119,6 @@ returns-5 c =
     turned-again _ _ _ (a .pre .0) _ (f .before .if1 .left) _ (f .head-fault .ensures) (w .before .before .if2 .left) (omega arith) (a .pre .1 .0) _ (w .word-at .ensures .0) (j .before .before .if4 .left)
     _ _ _ (sym (j .judge-contents .ensures) ∙ c .before .before .before .before .text .given .1) (sym (c .before .before .is-named-before .ensures) ∙ c .before .if5 .taken) (c .ending6 .ensures)
 
--- src/survey.rt:59:1
 returns-6 : tie.Need-returns-6
 returns-6 c =
     let j = c .before .before .before .before in
@@ -160,7 +128,6 @@ returns-6 c =
     turned-unsound _ _ _ (a .pre .0) _ (f .before .if1 .left) _ (f .head-fault .ensures) (w .before .before .if2 .left) (omega arith) (a .pre .1 .0) _ (w .word-at .ensures .0) (j .before .before .if4 .left)
     _ _ (sym (j .judge-contents .ensures) ∙ c .before .before .number .given .1) (c .ending5 .ensures)
 
--- src/survey.rt:59:1
 returns-7 : tie.Need-returns-7
 returns-7 c =
     let j = c .before .before .before .before .before in

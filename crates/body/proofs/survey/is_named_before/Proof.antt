@@ -9,10 +9,6 @@ use Rattle.body.proofs.TextLaws.{text-there, text-fits, text-part, shar
 use borrow.Author.Needs.{needs}
 use Rattle.body.proofs.survey.is_named_before.Statement.{statement}
 use Rattle.body.proofs.survey.is_named_before.Tie as tie
-use Rattle.body.proofs.survey.is_named_before.Reads as reads
-use Rattle.body.proofs.survey.is_named_before.Lts as lts
-use Rattle.names.proofs.is_sharing.Reads as is-sharing-reads
-use Rattle.scan.proofs.word_at.Reads as word-at-reads
 
 abbrev Inv-loop : tie.InvT-loop
 Inv-loop s n places at text start end k₀ k = (k ≤ n) × (sharing s n at ≡ first (sharesWith s at) k n)
@@ -20,71 +16,54 @@ Inv-loop s n places at text start end k₀ k = (k ≤ n) × (sharing s n at ≡ 
 abbrev μ-loop : tie.MeasureT-loop
 μ-loop s n places at text start end k₀ k = n - k
 
--- src/survey.rt:33:17
 add-start : tie.Need-add-start Inv-loop μ-loop
 add-start c = search needs
 
--- src/survey.rt:34:15
 add-end : tie.Need-add-end Inv-loop μ-loop
 add-end c = search needs
 
--- src/survey.rt:36:5
 loop-holds : tie.Need-loop-holds Inv-loop μ-loop
 loop-holds c = (search needs, sharing-start _ _ _)
 
--- src/survey.rt:37:22
 mul-before : tie.Need-mul-before Inv-loop μ-loop
 mul-before c = search needs
 
--- src/survey.rt:37:22
 element-copy-out-before : tie.Need-element-copy-out-before Inv-loop μ-loop
 element-copy-out-before c = search needs
 
--- src/survey.rt:37:22
 add-before : tie.Need-add-before Inv-loop μ-loop
 add-before c = omega (arith, text-fits (c .before .before .before .before .args .s .now) (c .before .before .before .before .args .places .now) (c .before .before .before .before .args .n) (c .before .before .loop .k) (c .before .before .before .before .pre .1 .0) (omega arith))
 
--- src/survey.rt:38:47
 sub-word-at : tie.Need-sub-word-at Inv-loop μ-loop
 sub-word-at c = search needs
 
--- src/survey.rt:38:30
 word-at-requires : tie.Need-word-at-requires Inv-loop μ-loop
 word-at-requires c κs = omega (arith, text-fits (c .before .before .before .before .args .s .now) (c .before .before .before .before .args .places .now) (c .before .before .before .before .args .n) (c .before .before .loop .k) (c .before .before .before .before .pre .1 .0) (omega arith))
 
--- src/survey.rt:38:21
 add-after : tie.Need-add-after Inv-loop μ-loop
 add-after c = omega (arith, text-fits (c .before .before .before .before .before .args .s .now) (c .before .before .before .before .before .args .places .now) (c .before .before .before .before .before .args .n) (c .before .before .before .loop .k) (c .before .before .before .before .before .pre .1 .0) (omega arith), c .word-at .ensures .0)
 
--- src/survey.rt:39:30
 sub-is-sharing : tie.Need-sub-is-sharing Inv-loop μ-loop
 sub-is-sharing c = search needs
 
--- src/survey.rt:39:30
 part-is-sharing-start : tie.Need-part-is-sharing-start Inv-loop μ-loop
 part-is-sharing-start c = search needs
 
--- src/survey.rt:39:30
 part-is-sharing-end : tie.Need-part-is-sharing-end Inv-loop μ-loop
 part-is-sharing-end c = omega (arith, text-fits (c .before .before .before .before .before .args .s .now) (c .before .before .before .before .before .args .places .now) (c .before .before .before .before .before .args .n) (c .before .before .before .loop .k) (c .before .before .before .before .before .pre .1 .0) (omega arith), c .word-at .ensures .0)
 
--- src/survey.rt:39:49
 sub-is-sharing-2 : tie.Need-sub-is-sharing-2 Inv-loop μ-loop
 sub-is-sharing-2 c = search needs
 
--- src/survey.rt:39:49
 part-is-sharing-start-2 : tie.Need-part-is-sharing-start-2 Inv-loop μ-loop
 part-is-sharing-start-2 c = search needs
 
--- src/survey.rt:39:49
 part-is-sharing-end-2 : tie.Need-part-is-sharing-end-2 Inv-loop μ-loop
 part-is-sharing-end-2 c = search needs
 
--- src/survey.rt:39:12
 is-sharing-requires : tie.Need-is-sharing-requires Inv-loop μ-loop
 is-sharing-requires c κs = search needs
 
--- src/survey.rt:40:13
 returns : tie.Need-returns Inv-loop μ-loop
 returns c =
     let r = c .before .before .before .before .before .before .before .before .before in
@@ -92,15 +71,12 @@ returns c =
     sharing-here _ _ _ _ (l .inv .1) _ _ (text-part _ _ _ _ (r .pre .1 .0) (omega arith) _ (c .before .before .before .before .word-at .ensures .0))
     (text-there _ _ _ _ refl (r .pre .1 .1 .0)) (omega arith) (sym (c .before .is-sharing .ensures) ∙ c .if1 .taken)
 
--- src/survey.rt:42:9
 add-k : tie.Need-add-k Inv-loop μ-loop
 add-k c = search needs
 
--- src/survey.rt:36:5
 loop-less : tie.Need-loop-less Inv-loop μ-loop
 loop-less c = search needs
 
--- src/survey.rt:36:5
 loop-again : tie.Need-loop-again Inv-loop μ-loop
 loop-again c =
     let r = c .before .before .before .before .before .before .before .before .before in
@@ -110,7 +86,6 @@ loop-again c =
           (text-there _ _ _ _ refl (r .pre .1 .1 .0)) (omega arith) (sym (c .before .is-sharing .ensures) ∙ c .if1 .left),
     )
 
--- src/survey.rt:29:1
 returns-2 : tie.Need-returns-2 Inv-loop μ-loop
 returns-2 c = sharing-none _ _ _ _ (c .before .loop .inv .1) (omega arith)
 

@@ -13,10 +13,6 @@ use Rattle.body.proofs.TurnLaws.{places-start, insides-start, places-ne
 use borrow.Author.Needs.{needs}
 use Rattle.body.proofs.survey.read_groups.Statement.{statement}
 use Rattle.body.proofs.survey.read_groups.Tie as tie
-use Rattle.body.proofs.survey.read_groups.Reads as reads
-use Rattle.body.proofs.survey.read_groups.Lts as lts
-use Rattle.body.proofs.survey.group_turn.Reads as group-turn-reads
-use Rattle.scan.proofs.word_at.Reads as word-at-reads
 
 abbrev Inv-loop : tie.InvT-loop
 Inv-loop s places₀ records₀ seconds₀ n₀ at₀ places records seconds n at =
@@ -25,35 +21,28 @@ Inv-loop s places₀ records₀ seconds₀ n₀ at₀ places records seconds n a
 abbrev μ-loop : tie.MeasureT-loop
 μ-loop s places₀ records₀ seconds₀ n₀ at₀ places records seconds n at = 33 - n
 
--- src/survey.rt:102:9
 returns : tie.Need-returns Inv-loop μ-loop
 returns c = record { run = sym (body-over _ (omega arith)); known = λ n e. not-ended _ _ n e }
 
--- src/survey.rt:111:5
 loop-holds : tie.Need-loop-holds Inv-loop μ-loop
 unfolding groupPlace
 loop-holds c = (omega arith, (refl, (omega arith, (places-start _ _ refl, (insides-start _ _ _ refl refl, body-within _ (omega arith))))))
 
--- src/survey.rt:112:13
 group-turn-requires : tie.Need-group-turn-requires Inv-loop μ-loop
 group-turn-requires c κs = let l = c .before .loop in (l .inv .1 .0, (l .inv .1 .1 .0, (l .inv .0, l .inv .1 .1 .1 .0)))
 
--- src/survey.rt:115:27
 enum-known-turn : tie.Need-enum-known-turn Inv-loop μ-loop
 enum-known-turn c = search needs
 
--- src/survey.rt:116:17
 returns-2 : tie.Need-returns-2 Inv-loop μ-loop
 returns-2 c =
     let g = c .before .before .before in
     let l = g .before .before .loop in
     record { run = sym (l .inv .1 .1 .1 .1 .1 ∙ run-stop _ _ _ _ _ (omega arith) (sym (g .group-turn .ensures .turn) ∙ c .before .turn .given .1)); known = λ n e. not-ended _ _ n e }
 
--- src/survey.rt:125:26
 enum-told : tie.Need-enum-told Inv-loop μ-loop
 enum-told c = search needs
 
--- src/survey.rt:124:17
 returns-3 : tie.Need-returns-3 Inv-loop μ-loop
 returns-3 c =
     let g = c .before .before in
@@ -66,11 +55,9 @@ returns-3 c =
 enum-told-2 : tie.Need-enum-told-2 Inv-loop μ-loop
 enum-told-2 c = search needs
 
--- src/survey.rt:133:9
 mul-places : tie.Need-mul-places Inv-loop μ-loop
 mul-places c = search needs
 
--- src/survey.rt:133:9
 array-write-places : tie.Need-array-write-places Inv-loop μ-loop
 array-write-places c =
     let g = c .before .before in
@@ -78,11 +65,9 @@ array-write-places c =
     let more = more-within _ _ _ _ (g .group-turn .ensures) (l .inv .1 .0) (l .inv .1 .1 .0) (c .enum-told2 .given .1) in
     more .0
 
--- src/survey.rt:134:9
 mul-records : tie.Need-mul-records Inv-loop μ-loop
 mul-records c = search needs
 
--- src/survey.rt:134:9
 array-write-records : tie.Need-array-write-records Inv-loop μ-loop
 array-write-records c =
     let g = c .before .before in
@@ -90,11 +75,9 @@ array-write-records c =
     let more = more-within _ _ _ _ (g .group-turn .ensures) (l .inv .1 .0) (l .inv .1 .1 .0) (c .enum-told2 .given .1) in
     more .0
 
--- src/survey.rt:135:9
 mul-seconds : tie.Need-mul-seconds Inv-loop μ-loop
 mul-seconds c = search needs
 
--- src/survey.rt:135:9
 array-write-seconds : tie.Need-array-write-seconds Inv-loop μ-loop
 array-write-seconds c =
     let g = c .before .before in
@@ -102,7 +85,6 @@ array-write-seconds c =
     let more = more-within _ _ _ _ (g .group-turn .ensures) (l .inv .1 .0) (l .inv .1 .1 .0) (c .enum-told2 .given .1) in
     more .0
 
--- src/survey.rt:136:14
 add-at : tie.Need-add-at Inv-loop μ-loop
 add-at c =
     let g = c .before .before in
@@ -110,11 +92,9 @@ add-at c =
     let more = more-within _ _ _ _ (g .group-turn .ensures) (l .inv .1 .0) (l .inv .1 .1 .0) (c .enum-told2 .given .1) in
     omega (arith, more .1 .0)
 
--- src/survey.rt:136:40
 add-word-at : tie.Need-add-word-at Inv-loop μ-loop
 add-word-at c = search needs
 
--- src/survey.rt:136:23
 word-at-requires : tie.Need-word-at-requires Inv-loop μ-loop
 word-at-requires c κs =
     let g = c .before .before in
@@ -122,7 +102,6 @@ word-at-requires c κs =
     let more = more-within _ _ _ _ (g .group-turn .ensures) (l .inv .1 .0) (l .inv .1 .1 .0) (c .enum-told2 .given .1) in
     omega (arith, more .1 .0)
 
--- src/survey.rt:136:14
 add-at-2 : tie.Need-add-at-2 Inv-loop μ-loop
 add-at-2 c =
     let g = c .before .before .before in
@@ -130,11 +109,9 @@ add-at-2 c =
     let more = more-within _ _ _ _ (g .group-turn .ensures) (l .inv .1 .0) (l .inv .1 .1 .0) (c .before .enum-told2 .given .1) in
     omega (arith, more .1 .0, c .word-at .ensures .0)
 
--- src/survey.rt:137:9
 add-n : tie.Need-add-n Inv-loop μ-loop
 add-n c = search needs
 
--- src/survey.rt:111:5
 loop-less : tie.Need-loop-less Inv-loop μ-loop
 loop-less c =
     let g = c .before .before .before in
@@ -142,7 +119,6 @@ loop-less c =
     let more = more-within _ _ _ _ (g .group-turn .ensures) (l .inv .1 .0) (l .inv .1 .1 .0) (c .before .enum-told2 .given .1) in
     omega (arith, more .0)
 
--- src/survey.rt:111:5
 loop-again : tie.Need-loop-again Inv-loop μ-loop
 loop-again c =
     let g = c .before .before .before in

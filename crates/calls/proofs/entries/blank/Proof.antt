@@ -3,8 +3,6 @@ use Prim.Native.Nat.{_-_, _≤_}
 use borrow.Author.Needs.{needs}
 use Rattle.calls.proofs.entries.blank.Statement.{statement}
 use Rattle.calls.proofs.entries.blank.Tie as tie
-use Rattle.calls.proofs.entries.blank.Reads as reads
-use Rattle.calls.proofs.entries.blank.Lts as lts
 
 abbrev Inv-loop : tie.InvT-loop
 Inv-loop list₀ n k₀ list k = k ≤ n
@@ -12,31 +10,24 @@ Inv-loop list₀ n k₀ list k = k ≤ n
 abbrev μ-loop : tie.MeasureT-loop
 μ-loop list₀ n k₀ list k = n - k
 
--- src/entries.rt:21:5
 loop-holds : tie.Need-loop-holds Inv-loop μ-loop
 loop-holds c = search needs
 
--- src/entries.rt:22:9
 mul-list : tie.Need-mul-list Inv-loop μ-loop
 mul-list c = search needs
 
--- src/entries.rt:22:9
 element-write-list : tie.Need-element-write-list Inv-loop μ-loop
 element-write-list c = search needs
 
--- src/entries.rt:23:9
 add-k : tie.Need-add-k Inv-loop μ-loop
 add-k c = search needs
 
--- src/entries.rt:21:5
 loop-less : tie.Need-loop-less Inv-loop μ-loop
 loop-less c = search needs
 
--- src/entries.rt:21:5
 loop-again : tie.Need-loop-again Inv-loop μ-loop
 loop-again c = search needs
 
--- src/entries.rt:17:1
 returns : tie.Need-returns Inv-loop μ-loop
 returns c = search needs
 

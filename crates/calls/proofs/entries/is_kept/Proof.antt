@@ -3,8 +3,6 @@ use Prim.Native.Nat.{_-_, _≤_}
 use borrow.Author.Needs.{needs}
 use Rattle.calls.proofs.entries.is_kept.Statement.{statement}
 use Rattle.calls.proofs.entries.is_kept.Tie as tie
-use Rattle.calls.proofs.entries.is_kept.Reads as reads
-use Rattle.calls.proofs.entries.is_kept.Lts as lts
 
 abbrev Inv-loop : tie.InvT-loop
 Inv-loop list from n k₀ k = Unit {0}
@@ -12,35 +10,27 @@ Inv-loop list from n k₀ k = Unit {0}
 abbrev μ-loop : tie.MeasureT-loop
 μ-loop list from n k₀ k = n - k
 
--- src/entries.rt:32:5
 loop-holds : tie.Need-loop-holds Inv-loop μ-loop
 loop-holds c = search needs
 
--- src/entries.rt:33:12
 mul-if1 : tie.Need-mul-if1 Inv-loop μ-loop
 mul-if1 c = search needs
 
--- src/entries.rt:33:12
 element-copy-out-if1 : tie.Need-element-copy-out-if1 Inv-loop μ-loop
 element-copy-out-if1 c = search needs
 
--- src/entries.rt:34:13
 returns : tie.Need-returns Inv-loop μ-loop
 returns c = search needs
 
--- src/entries.rt:36:9
 add-k : tie.Need-add-k Inv-loop μ-loop
 add-k c = search needs
 
--- src/entries.rt:32:5
 loop-less : tie.Need-loop-less Inv-loop μ-loop
 loop-less c = search needs
 
--- src/entries.rt:32:5
 loop-again : tie.Need-loop-again Inv-loop μ-loop
 loop-again c = search needs
 
--- src/entries.rt:28:1
 returns-2 : tie.Need-returns-2 Inv-loop μ-loop
 returns-2 c = search needs
 

@@ -4,9 +4,6 @@ use Rattle.script.specs.Printing.{Waits}
 use borrow.Author.Needs.{needs}
 use Rattle.calls.proofs.entries.put_entries.Statement.{statement}
 use Rattle.calls.proofs.entries.put_entries.Tie as tie
-use Rattle.calls.proofs.entries.put_entries.Reads as reads
-use Rattle.calls.proofs.entries.put_entries.Lts as lts
-use Rattle.calls.proofs.entries.put_field.Reads as put-field-reads
 
 abbrev Inv-loop : tie.InvT-loop
 Inv-loop out₀ used list count after₀ k₀ out after k = Waits after
@@ -14,31 +11,24 @@ Inv-loop out₀ used list count after₀ k₀ out after k = Waits after
 abbrev μ-loop : tie.MeasureT-loop
 μ-loop out₀ used list count after₀ k₀ out after k = 24576 - k
 
--- src/entries.rt:61:5
 loop-holds : tie.Need-loop-holds Inv-loop μ-loop
 loop-holds c = search needs
 
--- src/entries.rt:62:9
 put-field-requires : tie.Need-put-field-requires Inv-loop μ-loop
 put-field-requires c κs = search needs
 
--- src/entries.rt:63:9
 add-k : tie.Need-add-k Inv-loop μ-loop
 add-k c = search needs
 
--- src/entries.rt:61:5
 loop-less : tie.Need-loop-less Inv-loop μ-loop
 loop-less c = search needs
 
--- src/entries.rt:61:5
 loop-again : tie.Need-loop-again Inv-loop μ-loop
 loop-again c = search needs
 
--- src/entries.rt:55:1
 returns : tie.Need-returns Inv-loop μ-loop
 returns c = search needs
 
--- src/entries.rt:55:1
 returns-2 : tie.Need-returns-2 Inv-loop μ-loop
 returns-2 c = search needs
 

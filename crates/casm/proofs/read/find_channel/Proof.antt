@@ -6,76 +6,56 @@ use Rattle.casm.proofs.ReadLaws.{channel-no, channel-refused, channel-m
 use borrow.Author.Needs.{needs}
 use Rattle.casm.proofs.read.find_channel.Statement.{statement}
 use Rattle.casm.proofs.read.find_channel.Tie as tie
-use Rattle.casm.proofs.read.find_channel.Reads as reads
-use Rattle.casm.proofs.read.find_channel.Lts as lts
-use Rattle.body.proofs.find.find_group.Reads as find-group-reads
-use Rattle.body.proofs.find.find_row.Reads as find-row-reads
-use Rattle.casm.proofs.read.no_channel.Reads as no-channel-reads
 
--- src/read.rt:121:11
 find-group-requires : tie.Need-find-group-requires
 find-group-requires c κs = search needs
 
--- src/read.rt:122:25
 enum-known-number : tie.Need-enum-known-number
 enum-known-number c = search needs
 
--- src/read.rt:122:43
 no-channel-requires : tie.Need-no-channel-requires
 no-channel-requires c κs = search needs
 
--- src/read.rt:123:28
 enum-told : tie.Need-enum-told
 enum-told c = search needs
 
--- src/read.rt:123:28
 no-channel-requires-2 : tie.Need-no-channel-requires-2
 no-channel-requires-2 c κs = search needs
 
--- src/read.rt:124:26
 enum-known-x : tie.Need-enum-known-x
 enum-known-x c = search needs
 
--- src/read.rt:125:17
 find-row-requires : tie.Need-find-row-requires
 find-row-requires c κs = there-within _ _ _ (group-there-is _ _ _ _ (sym (c .before .before .before .find-group .ensures) ∙ c .before .x .given .1)) .ctabs
 
--- src/read.rt:127:17
 no-channel-requires-3 : tie.Need-no-channel-requires-3
 no-channel-requires-3 c κs = search needs
 
--- src/read.rt:127:17
 returns : tie.Need-returns
 returns c =
     c .no-channel3 .ensures ∙ channel-no _ _ _ _ _ (channel-none _ _ _ _ (group-there-is _ _ _ _ (sym (c .before .before .before .before .before .before .before .find-group .ensures) ∙ c .before .before .before .before .before .x .given .1)) _ (c .before .before .before .find-row .ensures) (omega arith))
 
--- src/read.rt:133:31
 mul-t11 : tie.Need-mul-t11
 mul-t11 c =
     let w = there-within _ _ _ (group-there-is _ _ _ _ (sym (c .before .before .before .before .before .before .find-group .ensures) ∙ c .before .before .before .before .x .given .1)) .ctabs in
     omega arith
 
--- src/read.rt:133:21
 add-t12 : tie.Need-add-t12
 add-t12 c =
     let w = there-within _ _ _ (group-there-is _ _ _ _ (sym (c .before .before .before .before .before .before .before .find-group .ensures) ∙ c .before .before .before .before .before .x .given .1)) .ctabs in
     omega arith
 
--- src/read.rt:133:21
 add-t13 : tie.Need-add-t13
 add-t13 c =
     let w = there-within _ _ _ (group-there-is _ _ _ _ (sym (c .before .before .before .before .before .before .before .find-group .ensures) ∙ c .before .before .before .before .before .x .given .1)) .ctabs in
     omega arith
 
--- src/read.rt:118:1
 returns-2 : tie.Need-returns-2
 returns-2 c = c .no-channel .ensures ∙ channel-no _ _ _ _ _ (channel-refused _ _ _ _ _ (sym (c .before .before .before .before .find-group .ensures) ∙ c .before .before .number .given .1))
 
--- src/read.rt:118:1
 returns-3 : tie.Need-returns-3
 returns-3 c = c .no-channel2 .ensures ∙ channel-no _ _ _ _ _ (channel-missing _ _ _ (sym (c .before .before .before .find-group .ensures) ∙ c .before .enum-told .given .1))
 
--- src/read.rt:118:1
 returns-4 : tie.Need-returns-4
 returns-4 c = channel-there _ _ _ _ (group-there-is _ _ _ _ (sym (c .before .before .before .before .before .before .before .find-group .ensures) ∙ c .before .before .before .before .before .x .given .1)) _ (c .before .before .before .find-row .ensures) (omega arith)
 

@@ -4,35 +4,25 @@ use Rattle.casm.proofs.ReadLaws.{part-no, part-refused, part-missing, p
 use borrow.Author.Needs.{needs}
 use Rattle.casm.proofs.read.find_part.Statement.{statement}
 use Rattle.casm.proofs.read.find_part.Tie as tie
-use Rattle.casm.proofs.read.find_part.Reads as reads
-use Rattle.casm.proofs.read.find_part.Lts as lts
-use Rattle.body.proofs.find.find_part.Reads as find-part-reads
 
--- src/read.rt:86:11
 find-part-requires : tie.Need-find-part-requires
 find-part-requires c κs = search needs
 
--- src/read.rt:87:25
 enum-known-number : tie.Need-enum-known-number
 enum-known-number c = search needs
 
--- src/read.rt:92:28
 enum-told : tie.Need-enum-told
 enum-told c = search needs
 
--- src/read.rt:97:23
 enum-known-k : tie.Need-enum-known-k
 enum-known-k c = search needs
 
--- src/read.rt:83:1
 returns : tie.Need-returns
 returns c = part-no _ _ _ _ (part-refused _ _ _ _ (sym (c .before .before .before .find-part .ensures) ∙ c .before .number .given .1))
 
--- src/read.rt:83:1
 returns-2 : tie.Need-returns-2
 returns-2 c = part-no _ _ _ _ (part-missing _ _ (sym (c .before .before .find-part .ensures) ∙ c .enum-told .given .1))
 
--- src/read.rt:83:1
 returns-3 : tie.Need-returns-3
 returns-3 c = part-there _ _ _ _ (sym (c .before .before .before .find-part .ensures) ∙ c .before .k .given .1)
 

@@ -6,77 +6,57 @@ use Rattle.casm.proofs.ReadLaws.{text-none, text-refused, text-missing,
 use borrow.Author.Needs.{needs}
 use Rattle.casm.proofs.read.group_text.Statement.{statement}
 use Rattle.casm.proofs.read.group_text.Tie as tie
-use Rattle.casm.proofs.read.group_text.Reads as reads
-use Rattle.casm.proofs.read.group_text.Lts as lts
-use Rattle.body.proofs.find.find_group.Reads as find-group-reads
 
--- src/read.rt:143:11
 find-group-requires : tie.Need-find-group-requires
 find-group-requires c κs = search needs
 
--- src/read.rt:144:34
 enum-told : tie.Need-enum-told
 enum-told c = search needs
 
--- src/read.rt:144:34
 sub-result : tie.Need-sub-result
 sub-result c = search needs
 
--- src/read.rt:144:34
 part-result-start : tie.Need-part-result-start
 part-result-start c = search needs
 
--- src/read.rt:144:34
 part-result-end : tie.Need-part-result-end
 part-result-end c = search needs
 
--- src/read.rt:145:28
 enum-told-2 : tie.Need-enum-told-2
 enum-told-2 c = search needs
 
--- src/read.rt:145:28
 sub-result-2 : tie.Need-sub-result-2
 sub-result-2 c = search needs
 
--- src/read.rt:145:28
 part-result-start-2 : tie.Need-part-result-start-2
 part-result-start-2 c = search needs
 
--- src/read.rt:145:28
 part-result-end-2 : tie.Need-part-result-end-2
 part-result-end-2 c = search needs
 
--- src/read.rt:146:26
 enum-known-x : tie.Need-enum-known-x
 enum-known-x c = search needs
 
--- src/read.rt:148:23
 add-end : tie.Need-add-end
 add-end c =
     let w = there-within _ _ _ (group-there-is _ _ _ _ (sym (c .before .before .before .before .find-group .ensures) ∙ c .before .before .x .given .1)) .text in
     omega arith
 
--- src/read.rt:149:13
 sub-result-3 : tie.Need-sub-result-3
 sub-result-3 c = search needs
 
--- src/read.rt:149:13
 part-result-start-3 : tie.Need-part-result-start-3
 part-result-start-3 c = search needs
 
--- src/read.rt:149:13
 part-result-end-3 : tie.Need-part-result-end-3
 part-result-end-3 c = there-within _ _ _ (group-there-is _ _ _ _ (sym (c .before .before .before .before .find-group .ensures) ∙ c .before .before .x .given .1)) .text
 
--- src/read.rt:140:1
 returns : tie.Need-returns
 returns c = text-none _ _ _ _ (text-refused _ _ _ _ (sym (c .before .before .before .find-group .ensures) ∙ c .before .enum-told .given .1))
 
--- src/read.rt:140:1
 returns-2 : tie.Need-returns-2
 returns-2 c = text-none _ _ _ _ (text-missing _ _ (sym (c .before .before .before .find-group .ensures) ∙ c .before .enum-told2 .given .1))
 
--- src/read.rt:140:1
 returns-3 : tie.Need-returns-3
 returns-3 c = text-there _ _ _ (group-there-is _ _ _ _ (sym (c .before .before .before .before .before .find-group .ensures) ∙ c .before .before .before .x .given .1))
 

@@ -4,10 +4,7 @@ use Rattle.layout.specs.Answers.{numberOf, placeOf, valueOr}
 use Rattle.layout.specs.Body.{channelled}
 use Rattle.casm.proofs.read.no_channel.Statement.{statement}
 use Rattle.casm.proofs.read.no_channel.Tie as tie
-use Rattle.casm.proofs.read.no_channel.Reads as reads
-use Rattle.casm.proofs.read.no_channel.Lts as lts
 
--- src/read.rt:106:1
 returns : tie.Need-returns
 unfolding channelled numberOf placeOf valueOr
 returns c = refl

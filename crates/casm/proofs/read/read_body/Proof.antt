@@ -4,27 +4,19 @@ use Rattle.casm.proofs.ReadLaws.{body-refused, body-counted}
 use borrow.Author.Needs.{needs}
 use Rattle.casm.proofs.read.read_body.Statement.{statement}
 use Rattle.casm.proofs.read.read_body.Tie as tie
-use Rattle.casm.proofs.read.read_body.Reads as reads
-use Rattle.casm.proofs.read.read_body.Lts as lts
-use Rattle.body.proofs.survey.read_groups.Reads as read-groups-reads
 
--- src/read.rt:27:9
 read-groups-requires : tie.Need-read-groups-requires
 read-groups-requires c κs = search needs
 
--- src/read.rt:30:22
 enum-known-run : tie.Need-enum-known-run
 enum-known-run c = search needs
 
--- src/read.rt:35:20
 enum-known-run-2 : tie.Need-enum-known-run-2
 enum-known-run-2 c = search needs
 
--- src/read.rt:24:1
 returns : tie.Need-returns
 returns c = body-refused _ _ _ (sym (c .before .before .before .read-groups .ensures .run) ∙ c .before .run .given .1)
 
--- src/read.rt:24:1
 returns-2 : tie.Need-returns-2
 returns-2 c = body-counted _ _ (sym (c .before .before .before .read-groups .ensures .run) ∙ c .before .run2 .given .1)
 

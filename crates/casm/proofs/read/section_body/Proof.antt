@@ -4,92 +4,70 @@ use Rattle.casm.proofs.ReadLaws.{section-none, section-rest, section-pa
 use borrow.Author.Needs.{needs}
 use Rattle.casm.proofs.read.section_body.Statement.{statement}
 use Rattle.casm.proofs.read.section_body.Tie as tie
-use Rattle.casm.proofs.read.section_body.Reads as reads
-use Rattle.casm.proofs.read.section_body.Lts as lts
 
--- src/read.rt:28:16
 sub-result : tie.Need-sub-result
 sub-result c = search needs
 
--- src/read.rt:28:16
 part-result-start : tie.Need-part-result-start
 part-result-start c = search needs
 
--- src/read.rt:28:16
 part-result-end : tie.Need-part-result-end
 part-result-end c = search needs
 
--- src/read.rt:28:9
 returns : tie.Need-returns
 returns c =
     let a = c .before .before .args in
     section-none (a .file .now) (a .tag) (a .length) (omega arith)
 
--- src/read.rt:30:8
 sub-if2 : tie.Need-sub-if2
 sub-if2 c = search needs
 
--- src/read.rt:31:16
 sub-result-2 : tie.Need-sub-result-2
 sub-result-2 c = search needs
 
--- src/read.rt:31:16
 part-result-start-2 : tie.Need-part-result-start-2
 part-result-start-2 c = search needs
 
--- src/read.rt:31:16
 part-result-end-2 : tie.Need-part-result-end-2
 part-result-end-2 c = search needs
 
--- src/read.rt:31:9
 returns-2 : tie.Need-returns-2
 returns-2 c =
     let a = c .before .before .before .args in
     section-none (a .file .now) (a .tag) (a .length) (omega arith)
 
--- src/read.rt:33:17
 add-start : tie.Need-add-start
 add-start c = search needs
 
--- src/read.rt:34:8
 sub-if3 : tie.Need-sub-if3
 sub-if3 c = search needs
 
--- src/read.rt:35:16
 sub-result-3 : tie.Need-sub-result-3
 sub-result-3 c = search needs
 
--- src/read.rt:35:16
 part-result-start-3 : tie.Need-part-result-start-3
 part-result-start-3 c = search needs
 
--- src/read.rt:35:16
 part-result-end-3 : tie.Need-part-result-end-3
 part-result-end-3 c = search needs
 
--- src/read.rt:35:9
 returns-3 : tie.Need-returns-3
 returns-3 c =
     let a = c .before .before .before .before .args in
     section-rest (a .file .now) (a .tag) (a .length) (omega arith)
 
--- src/read.rt:37:15
 add-end : tie.Need-add-end
 add-end c = search needs
 
--- src/read.rt:38:5
 sub-result-4 : tie.Need-sub-result-4
 sub-result-4 c = search needs
 
--- src/read.rt:38:5
 part-result-start-4 : tie.Need-part-result-start-4
 part-result-start-4 c = search needs
 
--- src/read.rt:38:5
 part-result-end-4 : tie.Need-part-result-end-4
 part-result-end-4 c = search needs
 
--- src/read.rt:24:1
 returns-4 : tie.Need-returns-4
 returns-4 c =
     let a = c .before .before .before .before .args in

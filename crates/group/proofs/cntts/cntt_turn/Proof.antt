@@ -8,74 +8,53 @@ use Rattle.group.proofs.OrderLaws.{order-at}
 use borrow.Author.Needs.{needs}
 use Rattle.group.proofs.cntts.cntt_turn.Statement.{statement}
 use Rattle.group.proofs.cntts.cntt_turn.Tie as tie
-use Rattle.group.proofs.cntts.cntt_turn.Reads as reads
-use Rattle.group.proofs.cntts.cntt_turn.Lts as lts
-use Rattle.group.proofs.cntts.order_fault.Reads as order-fault-reads
-use Rattle.record.proofs.is_cntt_value.Reads as is-cntt-value-reads
-use Rattle.scan.proofs.byte.Reads as byte-reads
-use Rattle.scan.proofs.head_fault.Reads as head-fault-reads
-use Rattle.scan.proofs.word_at.Reads as word-at-reads
 
--- src/cntts.rt:41:18
 mul-at : tie.Need-mul-at
 mul-at c = search needs
 
--- src/cntts.rt:41:14
 add-at : tie.Need-add-at
 add-at c = search needs
 
--- src/cntts.rt:41:27
 mul-at-2 : tie.Need-mul-at-2
 mul-at-2 c = search needs
 
--- src/cntts.rt:41:14
 add-at-2 : tie.Need-add-at-2
 add-at-2 c = search needs
 
--- src/cntts.rt:43:9
 returns : tie.Need-returns
 unfolding cnttTurn
 returns c = sym (cntt-over _ _ _ _ _ _ (c .if1 .taken))
 
--- src/cntts.rt:45:9
 head-fault-requires : tie.Need-head-fault-requires
 head-fault-requires c κs = search needs
 
--- src/cntts.rt:47:9
 returns-2 : tie.Need-returns-2
 unfolding cnttTurn
 returns-2 c = sym (cntt-head _ _ _ _ _ _ (c .before .before .if1 .left) _ (c .before .head-fault .ensures) (c .if2 .taken))
 
--- src/cntts.rt:49:25
 add-word-at : tie.Need-add-word-at
 add-word-at c = search needs
 
--- src/cntts.rt:49:8
 word-at-requires : tie.Need-word-at-requires
 word-at-requires c κs = omega (arith, cntt-within _ _ _ (c .before .head-fault .ensures) (c .if2 .left))
 
--- src/cntts.rt:50:9
 returns-3 : tie.Need-returns-3
 unfolding cnttTurn
 returns-3 c =
     let d = c .before .before in
     sym (cntt-size _ _ _ _ _ _ (d .before .before .if1 .left) _ (d .before .head-fault .ensures) (d .if2 .left) (λ e. c .if3 .taken (c .before .word-at .ensures .0 ∙ e)))
 
--- src/cntts.rt:52:33
 add-byte : tie.Need-add-byte
 add-byte c = search needs
 
--- src/cntts.rt:52:9
 byte-requires : tie.Need-byte-requires
 byte-requires c κs =
     let d = c .before .before in
     omega (arith, cntt-within _ _ _ (d .before .head-fault .ensures) (d .if2 .left), sym (c .before .word-at .ensures .0) ∙ c .if3 .left)
 
--- src/cntts.rt:54:33
 add-t16 : tie.Need-add-t16
 add-t16 c = search needs
 
--- src/cntts.rt:54:9
 returns-4 : tie.Need-returns-4
 unfolding cnttTurn
 returns-4 c =
@@ -84,26 +63,21 @@ returns-4 c =
     sym (cntt-channel _ _ _ _ _ _ (d .before .before .if1 .left) _ (d .before .head-fault .ensures) (d .if2 .left) (sym (e .before .word-at .ensures .0) ∙ e .if3 .left)
     (channel-over _ (rw (c .before .byte .ensures .0) at (c .if4 .taken))))
 
--- src/cntts.rt:56:45
 add-byte-2 : tie.Need-add-byte-2
 add-byte-2 c = search needs
 
--- src/cntts.rt:56:31
 byte-requires-2 : tie.Need-byte-requires-2
 byte-requires-2 c κs =
     let e = c .before .before in
     let d = e .before .before in
     omega (arith, cntt-within _ _ _ (d .before .head-fault .ensures) (d .if2 .left), sym (e .before .word-at .ensures .0) ∙ e .if3 .left)
 
--- src/cntts.rt:56:9
 is-cntt-value-requires : tie.Need-is-cntt-value-requires
 is-cntt-value-requires c κs = search needs
 
--- src/cntts.rt:57:33
 add-t18 : tie.Need-add-t18
 add-t18 c = search needs
 
--- src/cntts.rt:57:9
 returns-5 : tie.Need-returns-5
 unfolding cnttTurn
 returns-5 c =
@@ -113,27 +87,21 @@ returns-5 c =
     sym (cntt-value _ _ _ _ _ _ (d .before .before .if1 .left) _ (d .before .head-fault .ensures) (d .if2 .left) (sym (e .before .word-at .ensures .0) ∙ e .if3 .left)
     (channel-in _ (rw (g .before .byte .ensures .0) at (g .if4 .left))) (rw (c .before .before .byte2 .ensures .0) at (sym (c .before .is-cntt-value .ensures) ∙ not-true _ (c .if5 .taken))))
 
--- src/cntts.rt:59:29
 mul-order-fault : tie.Need-mul-order-fault
 mul-order-fault c = search needs
 
--- src/cntts.rt:59:29
 element-copy-out-order-fault : tie.Need-element-copy-out-order-fault
 element-copy-out-order-fault c = search needs
 
--- src/cntts.rt:59:45
 mul-order-fault-2 : tie.Need-mul-order-fault-2
 mul-order-fault-2 c = search needs
 
--- src/cntts.rt:59:45
 element-copy-out-order-fault-2 : tie.Need-element-copy-out-order-fault-2
 element-copy-out-order-fault-2 c = search needs
 
--- src/cntts.rt:59:9
 order-fault-requires : tie.Need-order-fault-requires
 order-fault-requires c κs = search needs
 
--- src/cntts.rt:61:9
 returns-6 : tie.Need-returns-6
 unfolding cnttTurn
 returns-6 c =
@@ -147,7 +115,6 @@ returns-6 c =
     (channel-in _ low) (rw (f .before .before .byte2 .ensures .0) at (sym (f .before .is-cntt-value .ensures) ∙ not-false _ (f .if5 .left))) _
     (c .before .order-fault .ensures ∙ order-at _ _ _ _ _ _ _ (pre .1 .0 .each _ (omega arith)) (pre .1 .1 .0 .each _ (omega arith)) _ _ (pre .1 .1 .1) (g .before .byte .ensures .0)) (c .if6 .taken))
 
--- src/cntts.rt:29:1
 returns-7 : tie.Need-returns-7
 unfolding cnttTurn
 returns-7 c =

@@ -5,26 +5,19 @@ use Rattle.group.proofs.OrderLaws.{order-again, order-stray, order-befo
 use borrow.Author.Needs.{needs}
 use Rattle.group.proofs.cntts.order_fault.Statement.{statement}
 use Rattle.group.proofs.cntts.order_fault.Tie as tie
-use Rattle.group.proofs.cntts.order_fault.Reads as reads
-use Rattle.group.proofs.cntts.order_fault.Lts as lts
 
--- src/cntts.rt:17:9
 returns : tie.Need-returns
 returns c = sym (order-again _ _ _ (c .if1 .taken))
 
--- src/cntts.rt:20:9
 returns-2 : tie.Need-returns-2
 returns-2 c = sym (order-stray _ _ _ (c .before .if1 .left) (c .if2 .taken))
 
--- src/cntts.rt:22:8
 sub-if3 : tie.Need-sub-if3
 sub-if3 c = search needs
 
--- src/cntts.rt:23:9
 returns-3 : tie.Need-returns-3
 returns-3 c = sym (order-before _ _ _ (c .before .before .if1 .left) (c .before .if2 .left) (omega arith))
 
--- src/cntts.rt:13:1
 returns-4 : tie.Need-returns-4
 returns-4 c = sym (order-none _ _ _ (c .before .before .if1 .left) (c .before .if2 .left) (omega arith))
 

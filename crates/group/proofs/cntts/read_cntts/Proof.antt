@@ -13,10 +13,6 @@ use Rattle.group.proofs.OrderLaws.{last-start, small, seen-more, home-t
 use borrow.Author.Needs.{needs}
 use Rattle.group.proofs.cntts.read_cntts.Statement.{statement}
 use Rattle.group.proofs.cntts.read_cntts.Tie as tie
-use Rattle.group.proofs.cntts.read_cntts.Reads as reads
-use Rattle.group.proofs.cntts.read_cntts.Lts as lts
-use Rattle.group.proofs.cntts.cntt_turn.Reads as cntt-turn-reads
-use Rattle.scan.proofs.byte.Reads as byte-reads
 
 abbrev Inv-loop : tie.InvT-loop
 Inv-loop c p n homes seen₀ last₀ j₀ seen last j =
@@ -26,79 +22,61 @@ Inv-loop c p n homes seen₀ last₀ j₀ seen last j =
 abbrev μ-loop : tie.MeasureT-loop
 μ-loop c p n homes seen₀ last₀ j₀ seen last j = length c + 1 - j
 
--- src/cntts.rt:74:5
 loop-holds : tie.Need-loop-holds Inv-loop μ-loop
 unfolding cnttsOf
 loop-holds c = (omega arith, (homes-start _ _ refl, (last-start _ _ _, refl)))
 
--- src/cntts.rt:75:15
 cntt-turn-requires : tie.Need-cntt-turn-requires Inv-loop μ-loop
 cntt-turn-requires c κs = (c .before .loop .inv .0, (c .before .before .before .pre .1, (c .before .loop .inv .1 .0, c .before .loop .inv .1 .1 .0)))
 
--- src/cntts.rt:76:27
 enum-known-number : tie.Need-enum-known-number Inv-loop μ-loop
 enum-known-number c = search needs
 
--- src/cntts.rt:76:45
 returns : tie.Need-returns Inv-loop μ-loop
 returns c = sym (c .before .before .before .before .before .loop .inv .1 .1 .1 ∙ run-stop _ _ _ _ _ (omega arith) (cc))
 
--- src/cntts.rt:77:27
 enum-told : tie.Need-enum-told Inv-loop μ-loop
 enum-told c = search needs
 
--- src/cntts.rt:77:27
 returns-2 : tie.Need-returns-2 Inv-loop μ-loop
 returns-2 c = sym (c .before .before .before .before .loop .inv .1 .1 .1 ∙ run-done _ _ _ (omega arith) (cc))
 
 enum-told-2 : tie.Need-enum-told-2 Inv-loop μ-loop
 enum-told-2 c = search needs
 
--- src/cntts.rt:80:41
 mul-byte : tie.Need-mul-byte Inv-loop μ-loop
 mul-byte c = search needs
 
--- src/cntts.rt:80:37
 add-byte : tie.Need-add-byte Inv-loop μ-loop
 add-byte c = search needs
 
--- src/cntts.rt:80:50
 mul-byte-2 : tie.Need-mul-byte-2 Inv-loop μ-loop
 mul-byte-2 c = search needs
 
--- src/cntts.rt:80:37
 add-byte-2 : tie.Need-add-byte-2 Inv-loop μ-loop
 add-byte-2 c = search needs
 
--- src/cntts.rt:80:37
 add-byte-3 : tie.Need-add-byte-3 Inv-loop μ-loop
 add-byte-3 c = search needs
 
--- src/cntts.rt:80:13
 byte-requires : tie.Need-byte-requires Inv-loop μ-loop
 byte-requires c κs = omega (arith, cntt-fits _ _ _ _ _ _ (cntt-turn-more _ _ _ _ _ (sym (c .before .before .cntt-turn .ensures) ∙ c .enum-told2 .given .1)))
 
--- src/cntts.rt:81:25
 add-seen : tie.Need-add-seen Inv-loop μ-loop
 add-seen c = search needs
 
--- src/cntts.rt:81:9
 mul-seen : tie.Need-mul-seen Inv-loop μ-loop
 mul-seen c = search needs
 
--- src/cntts.rt:81:9
 array-write-seen : tie.Need-array-write-seen Inv-loop μ-loop
 array-write-seen c = small _ _ _ _ (cntt-turn-more _ _ _ _ _ (sym (c .before .before .before .cntt-turn .ensures) ∙ c .before .enum-told2 .given .1)) _ (c .byte .ensures .0)
 
--- src/cntts.rt:82:16
 mul-last : tie.Need-mul-last Inv-loop μ-loop
 mul-last c = search needs
 
--- src/cntts.rt:82:16
 element-copy-out-last : tie.Need-element-copy-out-last Inv-loop μ-loop
 element-copy-out-last c = small _ _ _ _ (cntt-turn-more _ _ _ _ _ (sym (c .before .before .before .cntt-turn .ensures) ∙ c .before .enum-told2 .given .1)) _ (c .byte .ensures .0)
 
--- src/cntts.rt:82:16
 sub-last : tie.Need-sub-last Inv-loop μ-loop
 sub-last c =
     let b = c .before in
@@ -106,15 +84,12 @@ sub-last c =
     let there = home-there _ _ _ _ (cntt-turn-more _ _ _ _ _ (sym (d .before .before .cntt-turn .ensures) ∙ d .enum-told2 .given .1)) _ (b .byte .ensures .0) _ (d .before .before .before .before .before .before .pre .1) in
     omega arith
 
--- src/cntts.rt:83:9
 add-j : tie.Need-add-j Inv-loop μ-loop
 add-j c = search needs
 
--- src/cntts.rt:74:5
 loop-less : tie.Need-loop-less Inv-loop μ-loop
 loop-less c = search needs
 
--- src/cntts.rt:74:5
 loop-again : tie.Need-loop-again Inv-loop μ-loop
 loop-again c =
     let b = c .before in

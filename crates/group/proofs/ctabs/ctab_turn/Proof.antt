@@ -7,74 +7,53 @@ use Rattle.group.proofs.HomeLaws.{ctab-again, ctab-fresh}
 use borrow.Author.Needs.{needs}
 use Rattle.group.proofs.ctabs.ctab_turn.Statement.{statement}
 use Rattle.group.proofs.ctabs.ctab_turn.Tie as tie
-use Rattle.group.proofs.ctabs.ctab_turn.Reads as reads
-use Rattle.group.proofs.ctabs.ctab_turn.Lts as lts
-use Rattle.group.proofs.ctabs.is_over.Reads as is-over-reads
-use Rattle.record.proofs.first_out.Reads as first-out-reads
-use Rattle.scan.proofs.byte.Reads as byte-reads
-use Rattle.scan.proofs.head_fault.Reads as head-fault-reads
-use Rattle.scan.proofs.word_at.Reads as word-at-reads
 
--- src/ctabs.rt:36:18
 mul-at : tie.Need-mul-at
 mul-at c = search needs
 
--- src/ctabs.rt:36:14
 add-at : tie.Need-add-at
 add-at c = search needs
 
--- src/ctabs.rt:37:8
 is-over-requires : tie.Need-is-over-requires
 is-over-requires c κs = search needs
 
--- src/ctabs.rt:38:9
 returns : tie.Need-returns
 unfolding ctabTurn
 returns c = sym (ctab-over _ _ _ _ (sym (c .before .is-over .ensures) ∙ c .if1 .taken))
 
--- src/ctabs.rt:40:9
 head-fault-requires : tie.Need-head-fault-requires
 head-fault-requires c κs = search needs
 
--- src/ctabs.rt:42:9
 returns-2 : tie.Need-returns-2
 unfolding ctabTurn
 returns-2 c = sym (ctab-head _ _ _ _ (sym (c .before .before .before .is-over .ensures) ∙ c .before .before .if1 .left) _ (c .before .head-fault .ensures) (c .if2 .taken))
 
--- src/ctabs.rt:44:25
 add-word-at : tie.Need-add-word-at
 add-word-at c = search needs
 
--- src/ctabs.rt:44:8
 word-at-requires : tie.Need-word-at-requires
 word-at-requires c κs = omega (arith, ctab-within _ _ _ (c .before .head-fault .ensures) (c .if2 .left))
 
--- src/ctabs.rt:45:9
 returns-3 : tie.Need-returns-3
 unfolding ctabTurn
 returns-3 c =
     let d = c .before .before in
     sym (ctab-size _ _ _ _ (sym (d .before .before .before .is-over .ensures) ∙ d .before .before .if1 .left) _ (d .before .head-fault .ensures) (d .if2 .left) (λ e. c .if3 .taken (c .before .word-at .ensures .0 ∙ e)))
 
--- src/ctabs.rt:47:34
 add-first-out : tie.Need-add-first-out
 add-first-out c = search needs
 
--- src/ctabs.rt:47:9
 first-out-requires : tie.Need-first-out-requires
 first-out-requires c κs =
     let d = c .before .before in
     (omega arith, omega (arith, ctab-within _ _ _ (d .before .head-fault .ensures) (d .if2 .left), sym (c .before .word-at .ensures .0) ∙ c .if3 .left))
 
--- src/ctabs.rt:49:33
 add-t13 : tie.Need-add-t13
 add-t13 c = search needs
 
--- src/ctabs.rt:49:33
 add-t14 : tie.Need-add-t14
 add-t14 c = search needs
 
--- src/ctabs.rt:49:9
 returns-4 : tie.Need-returns-4
 unfolding ctabTurn
 returns-4 c =
@@ -82,26 +61,21 @@ returns-4 c =
     sym (ctab-out _ _ _ _ (sym (e .before .before .before .before .is-over .ensures) ∙ e .before .before .before .if1 .left) _ (e .before .before .head-fault .ensures) (e .before .if2 .left)
     (sym (e .word-at .ensures .0) ∙ c .before .before .if3 .left) _ (c .before .first-out .ensures) (omega arith))
 
--- src/ctabs.rt:51:33
 add-byte : tie.Need-add-byte
 add-byte c = search needs
 
--- src/ctabs.rt:51:9
 byte-requires : tie.Need-byte-requires
 byte-requires c κs =
     let e = c .before .before .before in
     omega (arith, ctab-within _ _ _ (e .before .before .head-fault .ensures) (e .before .if2 .left), sym (e .word-at .ensures .0) ∙ c .before .before .if3 .left)
 
--- src/ctabs.rt:52:8
 mul-if5 : tie.Need-mul-if5
 mul-if5 c = search needs
 
--- src/ctabs.rt:52:8
 element-copy-out-if5 : tie.Need-element-copy-out-if5
 element-copy-out-if5 c =
     rw (c .byte .ensures .0) (channel-small _ _ (rw (c .before .before .first-out .ensures) at (c .before .if4 .left)))
 
--- src/ctabs.rt:53:9
 returns-5 : tie.Need-returns-5
 unfolding ctabTurn
 returns-5 c =
@@ -112,7 +86,6 @@ returns-5 c =
     (ctab-again _ _ _ _ _ _ (b .byte .ensures .0) (e .before .before .before .before .before .before .pre .1 .each _
     (rw (b .byte .ensures .0) (channel-small _ _ (rw (b .before .before .first-out .ensures) at (b .before .if4 .left))))) (c .if5 .taken)))
 
--- src/ctabs.rt:32:1
 returns-6 : tie.Need-returns-6
 unfolding ctabTurn
 returns-6 c =

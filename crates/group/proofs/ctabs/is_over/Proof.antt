@@ -6,27 +6,19 @@ use Rattle.layout.proofs.Ctabs.{over-end, over-cut, over-tag}
 use borrow.Author.Needs.{needs}
 use Rattle.group.proofs.ctabs.is_over.Statement.{statement}
 use Rattle.group.proofs.ctabs.is_over.Tie as tie
-use Rattle.group.proofs.ctabs.is_over.Reads as reads
-use Rattle.group.proofs.ctabs.is_over.Lts as lts
-use Rattle.scan.proofs.is_tagged.Reads as is-tagged-reads
 
--- src/ctabs.rt:23:9
 returns : tie.Need-returns
 returns c = sym (over-end _ _ (c .if1 .taken))
 
--- src/ctabs.rt:25:8
 sub-if2 : tie.Need-sub-if2
 sub-if2 c = search needs
 
--- src/ctabs.rt:26:9
 returns-2 : tie.Need-returns-2
 returns-2 c = sym (over-cut _ _ (c .before .if1 .left) (omega arith))
 
--- src/ctabs.rt:28:5
 is-tagged-requires : tie.Need-is-tagged-requires
 is-tagged-requires c κs = search needs
 
--- src/ctabs.rt:18:1
 returns-3 : tie.Need-returns-3
 unfolding four
 returns-3 c = c .is-tagged .ensures ∙ sym (over-tag _ _ (c .before .before .if1 .left) (omega arith))

@@ -13,10 +13,6 @@ use Rattle.group.proofs.HomeLaws.{homes-start, homes-more, ended-homes}
 use borrow.Author.Needs.{needs}
 use Rattle.group.proofs.ctabs.read_ctabs.Statement.{statement}
 use Rattle.group.proofs.ctabs.read_ctabs.Tie as tie
-use Rattle.group.proofs.ctabs.read_ctabs.Reads as reads
-use Rattle.group.proofs.ctabs.read_ctabs.Lts as lts
-use Rattle.group.proofs.ctabs.ctab_turn.Reads as ctab-turn-reads
-use Rattle.scan.proofs.byte.Reads as byte-reads
 
 abbrev Inv-loop : tie.InvT-loop
 Inv-loop c p homes₀ n₀ homes n =
@@ -25,30 +21,24 @@ Inv-loop c p homes₀ n₀ homes n =
 abbrev μ-loop : tie.MeasureT-loop
 μ-loop c p homes₀ n₀ homes n = length c + 1 - n
 
--- src/ctabs.rt:65:5
 loop-holds : tie.Need-loop-holds Inv-loop μ-loop
 unfolding ctabsOf
 loop-holds c = (omega arith, (homes-start _ _ refl, refl))
 
--- src/ctabs.rt:66:15
 ctab-turn-requires : tie.Need-ctab-turn-requires Inv-loop μ-loop
 ctab-turn-requires c κs = search needs
 
--- src/ctabs.rt:67:27
 enum-known-number : tie.Need-enum-known-number Inv-loop μ-loop
 enum-known-number c = search needs
 
--- src/ctabs.rt:68:17
 returns : tie.Need-returns Inv-loop μ-loop
 returns c =
     let l = c .before .before .before .before .before .loop in
     record { run = sym (l .inv .1 .1 ∙ run-stop _ _ _ _ _ (omega arith) (cc)); homes = λ n e. not-ended _ _ n e }
 
--- src/ctabs.rt:75:26
 enum-told : tie.Need-enum-told Inv-loop μ-loop
 enum-told c = search needs
 
--- src/ctabs.rt:74:17
 returns-2 : tie.Need-returns-2 Inv-loop μ-loop
 returns-2 c =
     let l = c .before .before .before .before .loop in
@@ -57,43 +47,33 @@ returns-2 c =
 enum-told-2 : tie.Need-enum-told-2 Inv-loop μ-loop
 enum-told-2 c = search needs
 
--- src/ctabs.rt:81:41
 mul-byte : tie.Need-mul-byte Inv-loop μ-loop
 mul-byte c = search needs
 
--- src/ctabs.rt:81:37
 add-byte : tie.Need-add-byte Inv-loop μ-loop
 add-byte c = search needs
 
--- src/ctabs.rt:81:37
 add-byte-2 : tie.Need-add-byte-2 Inv-loop μ-loop
 add-byte-2 c = search needs
 
--- src/ctabs.rt:81:13
 byte-requires : tie.Need-byte-requires Inv-loop μ-loop
 byte-requires c κs = omega (arith, ctab-fits _ _ _ _ (turn-more _ _ _ (sym (c .before .before .ctab-turn .ensures) ∙ c .enum-told2 .given .1)))
 
--- src/ctabs.rt:82:26
 add-homes : tie.Need-add-homes Inv-loop μ-loop
 add-homes c = search needs
 
--- src/ctabs.rt:82:9
 mul-homes : tie.Need-mul-homes Inv-loop μ-loop
 mul-homes c = search needs
 
--- src/ctabs.rt:82:9
 array-write-homes : tie.Need-array-write-homes Inv-loop μ-loop
 array-write-homes c = rw (c .byte .ensures .0) (channel-small _ _ ((turn-more _ _ _ (sym (c .before .before .before .ctab-turn .ensures) ∙ c .before .enum-told2 .given .1)) .inside))
 
--- src/ctabs.rt:83:9
 add-n : tie.Need-add-n Inv-loop μ-loop
 add-n c = search needs
 
--- src/ctabs.rt:65:5
 loop-less : tie.Need-loop-less Inv-loop μ-loop
 loop-less c = search needs
 
--- src/ctabs.rt:65:5
 loop-again : tie.Need-loop-again Inv-loop μ-loop
 loop-again c =
     let d = c .before in

@@ -4,70 +4,52 @@ use Rattle.layout.specs.Records.{bytesOf}
 use borrow.Author.Needs.{needs}
 use Rattle.record.proofs.held.bytes_of.Statement.{statement}
 use Rattle.record.proofs.held.bytes_of.Tie as tie
-use Rattle.record.proofs.held.bytes_of.Reads as reads
-use Rattle.record.proofs.held.bytes_of.Lts as lts
 
--- src/held.rt:24:9
 array-read-t9 : tie.Need-array-read-t9
 array-read-t9 c = search needs
 
--- src/held.rt:25:9
 array-read-t12 : tie.Need-array-read-t12
 array-read-t12 c = search needs
 
--- src/held.rt:26:9
 array-read-t15 : tie.Need-array-read-t15
 array-read-t15 c = search needs
 
--- src/held.rt:27:9
 array-read-t18 : tie.Need-array-read-t18
 array-read-t18 c = search needs
 
--- src/held.rt:28:9
 array-read-t21 : tie.Need-array-read-t21
 array-read-t21 c = search needs
 
--- src/held.rt:29:9
 array-read-t24 : tie.Need-array-read-t24
 array-read-t24 c = search needs
 
--- src/held.rt:30:9
 array-read-t27 : tie.Need-array-read-t27
 array-read-t27 c = search needs
 
--- src/held.rt:31:9
 array-read-t30 : tie.Need-array-read-t30
 array-read-t30 c = search needs
 
--- src/held.rt:34:9
 array-read-t33 : tie.Need-array-read-t33
 array-read-t33 c = search needs
 
--- src/held.rt:35:9
 array-read-t36 : tie.Need-array-read-t36
 array-read-t36 c = search needs
 
--- src/held.rt:36:9
 array-read-t39 : tie.Need-array-read-t39
 array-read-t39 c = search needs
 
--- src/held.rt:37:9
 array-read-t42 : tie.Need-array-read-t42
 array-read-t42 c = search needs
 
--- src/held.rt:38:9
 array-read-t45 : tie.Need-array-read-t45
 array-read-t45 c = search needs
 
--- src/held.rt:39:9
 array-read-t48 : tie.Need-array-read-t48
 array-read-t48 c = search needs
 
--- src/held.rt:40:9
 array-read-t51 : tie.Need-array-read-t51
 array-read-t51 c = search needs
 
--- src/held.rt:14:1
 returns : tie.Need-returns
 unfolding bytesOf
 returns c = refl

@@ -8,21 +8,13 @@ use Rattle.record.proofs.BadBytes.{bad-early, bad-value, bad-late}
 use borrow.Author.Needs.{needs}
 use Rattle.record.proofs.held.first_bad.Statement.{statement}
 use Rattle.record.proofs.held.first_bad.Tie as tie
-use Rattle.record.proofs.held.first_bad.Reads as reads
-use Rattle.record.proofs.held.first_bad.Lts as lts
-use Rattle.record.proofs.first_out.Reads as first-out-reads
-use Rattle.record.proofs.held.bytes_of.Reads as bytes-of-reads
-use Rattle.record.proofs.held.is_bad_second.Reads as is-bad-second-reads
 
--- src/held.rt:91:13
 bytes-of-requires : tie.Need-bytes-of-requires
 bytes-of-requires c κs = search needs
 
--- src/held.rt:92:30
 slice-aggregate-first-out : tie.Need-slice-aggregate-first-out
 slice-aggregate-first-out c = search needs
 
--- src/held.rt:92:9
 first-out-requires : tie.Need-first-out-requires
 first-out-requires c κs = search needs
 
@@ -30,21 +22,17 @@ first-out-requires c κs = search needs
 asked : (c : tie.After-first-out) → c .first-out .result ≡ firstOut ranges (bytesOf (c .before .before .before .args .r)) 0 26
 asked c = c .first-out .ensures ∙ ap (λ (b : List ℕ). firstOut ranges b 0 26) (c .before .before .bytes-of .ensures)
 
--- src/held.rt:94:9
 returns : tie.Need-returns
 returns c = sym (bad-early _ _ (asked (c .before)) (c .if1 .taken))
 
--- src/held.rt:96:8
 is-bad-second-requires : tie.Need-is-bad-second-requires
 is-bad-second-requires c κs = search needs
 
--- src/held.rt:97:9
 returns-2 : tie.Need-returns-2
 returns-2 c =
     let k = c .before .before .before in
     sym (bad-value _ _ (asked k) (c .before .before .if1 .left) (sym (c .before .is-bad-second .ensures) ∙ c .if2 .taken))
 
--- src/held.rt:87:1
 returns-3 : tie.Need-returns-3
 returns-3 c =
     let k = c .before .before .before in
