@@ -1,4 +1,6 @@
 pub mod Scans
+pub mod Pigeonhole
+pub mod Same
 pub mod Numbers
 pub mod Heads
 pub mod Outs

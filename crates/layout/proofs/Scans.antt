@@ -131,6 +131,15 @@ module _ (p : ℕ → Bool) where
         go (yes l) = absurd (false≢true (sym (f (first p 0 n) l) ∙ first-stands l))
         go (no l) = let w = first-within in omega arith
 
+    -- a number below n that passes, and none before it does
+    pub first-is : (k : ℕ) → k < n → p k ≡ true → ((i : ℕ) → i < k → p i ≡ false) → first p 0 n ≡ k
+    first-is k h t f = go (decLt (first p 0 n) k) (decLt k (first p 0 n))
+      where
+        go : Dec (first p 0 n < k) → Dec (k < first p 0 n) → first p 0 n ≡ k
+        go (yes l) d = absurd (false≢true (sym (f (first p 0 n) l) ∙ first-stands (omega arith)))
+        go (no l) (yes m) = absurd (false≢true (sym (first-passed k m) ∙ t))
+        go (no l) (no m) = omega arith
+
 -- ---- what holds at every turn of a run, and so where it stops or ends
 
 module _ (turn : ℕ → Turn) (Kept : ℕ → Type 0) (next : (k : ℕ) → Kept k → turn k ≡ More → Kept (k + 1)) where

@@ -1,8 +1,8 @@
 -- The first bad byte of a record in memory, from the first byte out of its range: a byte other than 21 is bad exactly where it is out of its range,
 -- and so is byte 21 where the Cntt value is none or sound.
 use Prim.Native.Nat.{ℕ, _+_, _≤_, _<_}
-use mathlib.Core.Path.{_≡_, refl, sym, _∙_}
-use mathlib.Core.Bool.{Bool, true, false, _&&_, _||_, false≢true}
+use mathlib.Core.Path.{_≡_, refl, _∙_}
+use mathlib.Core.Bool.{Bool, true, false, _&&_, _||_}
 use native.Mathlib.Omega.{arith}
 use native.Mathlib.Decide.{decLt}
 use lib.Dec.{eqb}
@@ -12,17 +12,8 @@ use Rattle.layout.specs.Scan.{first}
 use Rattle.layout.specs.Ranges.{ranges, outOf, firstOut, firstEdition}
 use Rattle.layout.specs.declared.record.Record.{Record}
 use Rattle.layout.specs.Records.{bytesOf, badSecond, badByte, firstBad}
-use Rattle.layout.proofs.Scans.{first-passed, first-within, first-stands, first-none}
+use Rattle.layout.proofs.Scans.{first-passed, first-within, first-stands, first-none, first-is}
 use Rattle.layout.proofs.Outs.{highs, in-range}
-
--- a number below n that passes, and none before it does
-first-is : (p : ℕ → Bool) (n k : ℕ) → k < n → p k ≡ true → ((i : ℕ) → i < k → p i ≡ false) → first p 0 n ≡ k
-first-is p n k h t f = go (decLt (first p 0 n) k) (decLt k (first p 0 n))
-  where
-    go : Dec (first p 0 n < k) → Dec (k < first p 0 n) → first p 0 n ≡ k
-    go (yes l) d = absurd (false≢true (sym (f (first p 0 n) l) ∙ first-stands p n (omega arith)))
-    go (no l) (yes m) = absurd (false≢true (sym (first-passed p n k m) ∙ t))
-    go (no l) (no m) = omega arith
 
 or-same : (b : Bool) → b || false ≡ b
 or-same true = refl

@@ -6,10 +6,10 @@ use mathlib.Core.Bool.{Bool, true, false, _&&_, false≢true}
 use mathlib.Core.List.{List, [], _∷_, _++_, append-nil}
 use lib.ListN.{length, take, drop, take-append-drop}
 use lib.Dec.{eqb}
-use borrow.Author.Tests.{eqb-true}
 use Rattle.layout.specs.Lists.{same}
 use Rattle.layout.specs.Bytes.{tagAt, tagged, CSEG}
 use Rattle.layout.specs.Salvage.{cseg}
+use Rattle.layout.proofs.Same.{same-is}
 
 -- no CSEG begun in xs is completed by ys
 abbrev pub Apart : List ℕ → List ℕ → Type 0
@@ -60,16 +60,6 @@ both false false f g = refl
 pub no-cseg : cseg [] ≡ true → ⊥
 unfolding cseg tagged tagAt same
 no-cseg e = false≢true e
-
--- lists that test the same are the same
-same-is : (xs ys : List ℕ) → same xs ys ≡ true → xs ≡ ys
-unfolding same
-same-is [] [] e = refl
-same-is [] (y ∷ ys) e = absurd (false≢true e)
-same-is (x ∷ xs) [] e = absurd (false≢true e)
-same-is (x ∷ xs) (y ∷ ys) e =
-    let p : x ≡ y = eqb-true x y (and-left (eqb x y) (same xs ys) e) in
-    rw (p, same-is xs ys (and-right (eqb x y) (same xs ys) e))
 
 -- what begins with CSEG is the letters and the rest
 pub cseg-is : (s : List ℕ) → cseg s ≡ true → s ≡ 67 ∷ 83 ∷ 69 ∷ 71 ∷ drop 4 s
