@@ -1,0 +1,79 @@
+-- An edit: one law for each way out.
+use Prim.Native.Nat.{ℕ, _+_, _-_, _*_, _≤_, _<_}
+use mathlib.Core.Path.{_≡_, refl, sym, _∙_, ap}
+use mathlib.Core.Bool.{cond, not}
+use mathlib.Core.List.{List, _++_}
+use native.Mathlib.Omega.{arith}
+use lib.Dec.{leb}
+use lib.ListN.{length, drop}
+use borrow.Author.Tests.{eq-eqb, ne-eqb, lt-ltb, le-ltb, le-leb, lt-leb}
+use borrow.Rule.Slice.PartMut.{midOf, putMid}
+use Rattle.layout.specs.declared.answer.Answered.{Answered}
+use Rattle.layout.specs.declared.answer.Standing.{Standing}
+use Rattle.layout.specs.declared.record.Record.{Record}
+use Rattle.layout.specs.Answers.{Answer, refused, granted, numberOf, placeOf, valueOr, answered}
+use Rattle.layout.specs.Ranges.{firstEdition, ranges, firstOut}
+use Rattle.layout.specs.Records.{bytesOf, channelOf, fileBytes}
+use Rattle.layout.specs.Group.{ctabOf}
+use Rattle.layout.specs.Body.{ofChannel, rowOf, rowIn}
+use Rattle.layout.specs.Edit.{replaced, firstEdited, edited}
+use Rattle.layout.specs.Promises.{RecordEdited}
+use Rattle.body.specs.declared.find.Search.the-variants.{Refused, Missing}
+use Rattle.body.specs.Find.{groupLocated}
+use Rattle.body.proofs.AskLaws.{There, of-refused, of-missing, of-found}
+use Rattle.write.proofs.Tails.{tail-replaced}
+use Rattle.edit.specs.EditAt.{editedAt, EditedAt, told}
+
+-- ---- the record whose byte 0 stands at a place
+
+module _ (s : List ℕ) (at channel : ℕ) (r : Record) where
+  at-refused : (number place : ℕ) (a : Answered) → a ≡ told number place → editedAt s at channel r ≡ refused number place → EditedAt s at channel r a s
+  unfolding answered numberOf placeOf valueOr
+  at-refused number place a q e = record { answer = q ∙ rw e; body = rw e }
+
+  pub at-other : (a : Answered) → a ≡ told 16 0 → (channelOf r ≡ channel → ⊥) → EditedAt s at channel r a s
+  unfolding editedAt
+  at-other a q h = at-refused 16 0 a q (rw (ne-eqb (channelOf r) channel h))
+
+  module _ (h : channelOf r ≡ channel) (b : List ℕ) (e : b ≡ bytesOf r) (k : ℕ) (f : k ≡ firstOut ranges b 0 26) where
+    out-is : firstEdited firstEdition r ≡ k
+    unfolding firstEdited
+    out-is = sym (f ∙ ap (λ (x : List ℕ). firstOut ranges x 0 26) e)
+
+    pub at-out : (a : Answered) → a ≡ told 9 k → k < 26 → EditedAt s at channel r a s
+    unfolding editedAt
+    at-out a q l = at-refused 9 k a q (rw (eq-eqb (channelOf r) channel h, out-is, lt-ltb k 26 l))
+
+    pub at-put : (a : Answered) (ys : List ℕ) → a ≡ told 0 0 → 26 ≤ k → at ≤ length s → ys ≡ fileBytes r ++ drop 27 (midOf at (length s - at) s) → EditedAt s at channel r a (putMid at (length s - at) s ys)
+    unfolding editedAt answered numberOf placeOf valueOr fileBytes bytesOf
+    at-put a ys q l w y =
+        let z : editedAt s at channel r ≡ granted (replaced s at (fileBytes r)) = rw (eq-eqb (channelOf r) channel h, out-is, le-ltb k 26 l) in
+        record { answer = q ∙ rw z; body = tail-replaced s (fileBytes r) ys at 27 w refl y ∙ rw z }
+
+-- ---- the record of a group and source channel
+
+module _ (s : List ℕ) (g channel : ℕ) (r : Record) where
+  not-edited : (number place : ℕ) (a : Answered) → a ≡ told number place → edited s g channel r ≡ refused number place → RecordEdited s g channel r a s
+  unfolding answered numberOf placeOf valueOr
+  not-edited number place a q e = record { answer = q ∙ rw e; body = rw e }
+
+  pub edit-refused : (number place : ℕ) (a : Answered) → a ≡ told number place → groupLocated s g ≡ Refused number place → RecordEdited s g channel r a s
+  unfolding edited
+  edit-refused number place a q h = not-edited number place a q (of-refused s g _ number place h)
+
+  pub edit-missing : (a : Answered) → a ≡ told 16 0 → groupLocated s g ≡ Missing → RecordEdited s g channel r a s
+  unfolding edited
+  edit-missing a q h = not-edited 16 0 a q (of-missing s g _ h)
+
+  module _ (x : Standing) (there : There s g x) (i : ℕ) (e : i ≡ ctabOf firstEdition s (x .ctabs) (x .records) channel) where
+    asked : edited s g channel r ≡ cond (leb (x .records) i) (refused 15 0) (editedAt s (rowOf x i .at) channel r)
+    unfolding edited ofChannel rowIn editedAt
+    asked = of-found s g _ x there ∙ rw (there .stands, e)
+
+    pub edit-none : (a : Answered) → a ≡ told 15 0 → x .records ≤ i → RecordEdited s g channel r a s
+    edit-none a q h = not-edited 15 0 a q (asked ∙ rw (le-leb (x .records) i h))
+
+    pub edit-there : (a : Answered) (after : List ℕ) → i < x .records → EditedAt s (x .ctabs + 35 * i + 8) channel r a after → RecordEdited s g channel r a after
+    edit-there a after h w =
+        let z : edited s g channel r ≡ editedAt s (x .ctabs + 35 * i + 8) channel r = asked ∙ rw (lt-leb (x .records) i h) in
+        record { answer = w .answer ∙ ap answered (sym z); body = w .body ∙ ap (valueOr s) (sym z) }

@@ -1,0 +1,29 @@
+-- An edit once the record of the source channel is found (document 01, "Numbers of refusal": after the body).
+use Prim.Native.Nat.{ℕ}
+use mathlib.Core.Path.{_≡_}
+use mathlib.Core.Bool.{cond, not}
+use mathlib.Core.List.{List}
+use lib.Dec.{ltb, eqb}
+use Rattle.layout.specs.declared.answer.Answered.{Answered}
+use Rattle.layout.specs.declared.record.Record.{Record}
+use Rattle.layout.specs.Refusals.{outOfRange, badNumber}
+use Rattle.layout.specs.Answers.{Answer, refused, granted, valueOr, answered}
+use Rattle.layout.specs.Ranges.{firstEdition}
+use Rattle.layout.specs.Records.{channelOf, fileBytes}
+use Rattle.layout.specs.Edit.{replaced, firstEdited}
+
+-- the record whose byte 0 stands at `at`: "an edit's source channel 16, then 9"
+unfoldable pub editedAt : List ℕ → ℕ → ℕ → Record → Answer (List ℕ)
+editedAt s at channel r =
+    cond (not (eqb (channelOf r) channel)) (refused badNumber 0)
+    (cond (ltb (firstEdited firstEdition r) (firstEdition .held)) (refused outOfRange (firstEdited firstEdition r))
+    (granted (replaced s at (fileBytes r))))
+
+-- the answer, and the body at exit
+pub record EditedAt (before : List ℕ) (at channel : ℕ) (new : Record) (r : Answered) (after : List ℕ) : Type 0 where
+  pub answer : r ≡ answered (editedAt before at channel new)
+  pub body : after ≡ valueOr before (editedAt before at channel new)
+
+-- an answer of a number and a place
+abbrev pub told : ℕ → ℕ → Answered
+told number place = record { number = number; place = place }

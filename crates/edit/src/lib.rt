@@ -1,0 +1,59 @@
+// Editing (document 01, "Writing and editing"): the record of a group and source channel replaced inside a lent body.
+ghost use mathlib.Core.Path.{_≡_};
+ghost use Prim.Native.Nat.{_+_, _≤_};
+ghost use lib.ListN.{length};
+ghost use Rattle.layout.specs.Promises.{RecordEdited};
+ghost use Rattle.edit.specs.EditAt.{EditedAt, told};
+use body::find::Search;
+use body::find::find_group;
+use body::find::find_row;
+use layout::answer::Answered;
+use layout::record::Record;
+use layout::record::SourceChannel;
+use record::first_out;
+use record::held::bytes_of;
+use write::put::put_record;
+
+fn answer(number: u8, place: usize) -> Answered
+    ensures { λ r. ⌜ r ≡ told number place ⌝ }
+{
+    Answered {
+        number: number,
+        place: place,
+    }
+}
+
+// The record whose byte 0 stands at `at`: its source channel stays, and bytes 0-25 of the new one are in their ranges. Its Cntt is not looked at.
+fn edit_at(s: &mut [u8], at: usize, channel: SourceChannel, new: Record) -> Answered
+    requires { ⌜ at + 27 ≤ length (now s) ⌝ }
+    ensures { λ r. ⌜ EditedAt (now (s .entry)) at (channel .0) new r (now (s .exit)) ⌝ }
+{
+    let source = new.source;
+    if source.0 != channel.0 {
+        return answer(16, 0);
+    }
+    let b = bytes_of(new);
+    let k = first_out(&b, 0, 26);
+    if k < 26 {
+        return answer(9, k);
+    }
+    put_record(&mut s[at..], new);
+    answer(0, 0)
+}
+
+// Replaces the record of a group and source channel; only that Ctab's 27 bytes change, and nothing on refusal.
+pub fn edit_record(s: &mut [u8], group: usize, channel: SourceChannel, new: Record) -> Answered
+    ensures { λ r. ⌜ RecordEdited (now (s .entry)) group (channel .0) new r (now (s .exit)) ⌝ }
+{
+    match find_group(s, group) {
+        Search::Refused(number, place) => answer(number, place),
+        Search::Missing => answer(16, 0),
+        Search::Found(_, x) => {
+            let row = find_row(s, x.ctabs, x.records, channel.0);
+            if x.records <= row {
+                return answer(15, 0);
+            }
+            edit_at(s, x.ctabs + 35 * row + 8, channel, new)
+        }
+    }
+}

@@ -1,0 +1,36 @@
+// The editing screen (document 01, "Writing and editing"): one field byte of a record set, all other fields kept.
+ghost use Rattle.layout.specs.Promises.{FieldSet};
+use layout::answer::Changed;
+use layout::record::Record;
+use record::held::bytes_of;
+use record::held::record_of;
+use record::is_out;
+
+// The record with one byte set; the Cntt is kept.
+pub fn set_field(r: Record, index: usize, value: u8) -> Changed
+    ensures { λ c. ⌜ FieldSet r index value c ⌝ }
+{
+    if 26 <= index {
+        return Changed {
+            number: 16,
+            place: 0,
+            held: r,
+        };
+    }
+    if is_out(index, value) {
+        return Changed {
+            number: 9,
+            place: index,
+            held: r,
+        };
+    }
+    let second = r.second;
+    let mut b = bytes_of(r);
+    b[index] = value;
+    let held = record_of(&b, second);
+    Changed {
+        number: 0,
+        place: 0,
+        held: held,
+    }
+}

@@ -1,0 +1,102 @@
+-- What may be written: one law for each way out.
+use Prim.Native.Nat.{ℕ, _+_, _*_, _-_, _≤_, _<_}
+use mathlib.Core.Path.{_≡_, refl, sym, _∙_, ap}
+use mathlib.Core.Bool.{Bool, true, false, cond, _||_, _&&_}
+use mathlib.Core.List.{List, _++_}
+use native.Mathlib.Omega.{arith}
+use lib.Dec.{eqb}
+use lib.ListN.{length, getD, set, drop, replicate}
+use borrow.Author.Tests.{eq-eqb, ne-eqb, lt-ltb, le-ltb}
+use Rattle.layout.specs.declared.record.Record.{Record}
+use Rattle.layout.specs.declared.record.SecondTable.{SecondTable}
+use Rattle.layout.specs.declared.record.SecondTable.the-variants.{Absent, Value}
+use Rattle.layout.specs.Bytes.{CSEG, Sdec, four, chunk}
+use Rattle.layout.specs.Edit.{replaced}
+use Rattle.layout.specs.Ranges.{firstEdition, ranges, outOf}
+use Rattle.layout.specs.Records.{channelOf, bytesOf, badByte, badSecond, firstBad}
+use Rattle.layout.specs.Sdec.{soundText}
+use Rattle.layout.proofs.Scans.{first-passed}
+use Rattle.layout.proofs.Outs.{highs, in-range}
+use Rattle.write.specs.declared.check.Checked.{Checked}
+use Rattle.write.specs.declared.check.Plan.{Plan}
+use Rattle.write.specs.Checking.{refusedAt, begun, chunksSize, looked, noPlan, planned, startPlace, startBytes}
+
+module _ (text : List ℕ) (lent count : ℕ) where
+  pub begun-many : lent < count → begun text lent count ≡ refusedAt 16 0
+  unfolding begun
+  begun-many h = rw (lt-ltb lent count h)
+
+  module _ (h : count ≤ lent) where
+    pub begun-bad : soundText text ≡ false → begun text lent count ≡ refusedAt 8 0
+    unfolding begun
+    begun-bad e = rw (le-ltb lent count h, e)
+
+    pub begun-sound : soundText text ≡ true → begun text lent count ≡ record { number = 0; place = 0; records = count; length = 16 + length text; homes = replicate 16 0 }
+    unfolding begun
+    begun-sound e = rw (le-ltb lent count h, e)
+
+-- a record with no bad byte has a source channel below sixteen
+pub channel-low : (r : Record) (k : ℕ) → k ≡ firstBad firstEdition r → 26 ≤ k → channelOf r < 16
+unfolding firstBad badByte bytesOf channelOf highs ranges
+channel-low r k e h =
+    let none = first-passed (badByte firstEdition r) 26 0 (omega arith) in
+    let low : r .source .0 ≤ 15 = in-range 0 (r .source .0) (left (outOf ranges 0 (r .source .0)) (eqb 0 21 && badSecond (r .second)) none) in
+    omega arith
+  where
+    left : (a b : Bool) → a || b ≡ false → a ≡ false
+    left false b e = refl
+    left true b e = e
+
+-- a record's chunks are at most 45 bytes
+pub size-most : (second : SecondTable) → chunksSize second ≤ 45
+unfolding chunksSize
+size-most Absent = omega arith
+size-most (Value v) = omega arith
+
+module _ (x : Checked) (i : ℕ) (r : Record) where
+  pub looked-stays : (x .number ≡ 0 → ⊥) → looked x i r ≡ x
+  unfolding looked
+  looked-stays h = rw (ne-eqb (x .number) 0 h)
+
+  module _ (z : x .number ≡ 0) (k : ℕ) (e : k ≡ firstBad firstEdition r) where
+    pub looked-bad : k < 26 → looked x i r ≡ refusedAt 9 (27 * i + k)
+    unfolding looked
+    looked-bad h = rw (eq-eqb (x .number) 0 z, ← e, lt-ltb k 26 h)
+
+    module _ (h : 26 ≤ k) where
+      pub looked-again : (getD (x .homes) (channelOf r) 0 ≡ 0 → ⊥) → looked x i r ≡ refusedAt 10 (27 * i)
+      unfolding looked
+      looked-again d = rw (eq-eqb (x .number) 0 z, ← e, le-ltb k 26 h, ne-eqb (getD (x .homes) (channelOf r) 0) 0 d)
+
+      pub looked-on : (size : ℕ) → getD (x .homes) (channelOf r) 0 ≡ 0 → size ≡ chunksSize (r .second)
+          → looked x i r ≡ record { number = 0; place = 0; records = x .records; length = x .length + size; homes = set (x .homes) (channelOf r) (i + 1) }
+      unfolding looked
+      looked-on size d q = rw (eq-eqb (x .number) 0 z, ← e, le-ltb k 26 h, eq-eqb (getD (x .homes) (channelOf r) 0) 0 d, q)
+
+module _ (x : Checked) (room : ℕ) where
+  pub planned-not : (x .number ≡ 0 → ⊥) → planned x room ≡ noPlan (x .number) (x .place)
+  unfolding planned
+  planned-not h = rw (ne-eqb (x .number) 0 h)
+
+  module _ (z : x .number ≡ 0) where
+    pub planned-short : room < x .length → planned x room ≡ noPlan 14 0
+    unfolding planned
+    planned-short h = rw (eq-eqb (x .number) 0 z, lt-ltb room (x .length) h)
+
+    pub planned-fits : x .length ≤ room → planned x room ≡ record { number = 0; place = 0; records = x .records; length = x .length }
+    unfolding planned
+    planned-fits h = rw (eq-eqb (x .number) 0 z, le-ltb room (x .length) h)
+
+-- ---- the start of a group by its plan
+
+module _ (text out : List ℕ) (p : Plan) where
+  pub start-none : (p .number ≡ 0 → ⊥) → (0 ≡ startPlace text p) × (out ≡ replaced out 0 (startBytes text p))
+  unfolding startPlace startBytes replaced
+  start-none h = rw (ne-eqb (p .number) 0 h) (refl, refl)
+
+  pub start-put : (last : List ℕ) → p .number ≡ 0 → last ≡ CSEG ++ (four (p .length - 8) ++ (chunk Sdec text ++ drop (16 + length text) out))
+      → (16 + length text ≡ startPlace text p) × (last ≡ replaced out 0 (startBytes text p))
+  unfolding startPlace startBytes replaced chunk four
+  start-put last z e =
+      let q : 16 + length text ≡ 0 + length (CSEG ++ (four (p .length - 8) ++ chunk Sdec text)) = omega arith in
+      rw (eq-eqb (p .number) 0 z) (refl, e ∙ ap (λ (k : ℕ). CSEG ++ (four (p .length - 8) ++ (chunk Sdec text ++ drop k out))) q)

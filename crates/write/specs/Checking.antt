@@ -1,0 +1,77 @@
+-- What the records looked at so far come to: a refusal, or the homes of their source channels and the group's length so far.
+use Prim.Native.Nat.{ℕ, zero, suc, _+_, _*_, _-_}
+use mathlib.Core.Bool.{Bool, true, false, cond, not}
+use mathlib.Core.List.{List, [], _++_}
+use lib.Dec.{ltb, eqb}
+use lib.ListN.{length, getD, set, replicate}
+use Rattle.layout.specs.declared.answer.Measured.{Measured}
+use Rattle.layout.specs.declared.record.Record.{Record}
+use Rattle.layout.specs.declared.record.SecondTable.{SecondTable}
+use Rattle.layout.specs.declared.record.SecondTable.the-variants.{Absent, Value}
+use Rattle.layout.specs.Bytes.{CSEG, Sdec, four, chunk}
+use Rattle.layout.specs.Refusals.{accepted, badText, outOfRange, channelAgain, noRoom, badNumber}
+use Rattle.layout.specs.Ranges.{firstEdition}
+use Rattle.layout.specs.Records.{blank, channelOf, firstBad}
+use Rattle.layout.specs.Sdec.{soundText}
+use Rattle.write.specs.declared.check.Checked.{Checked}
+use Rattle.write.specs.declared.check.Plan.{Plan}
+
+-- a refusal: no record is to be looked at
+unfoldable pub refusedAt : ℕ → ℕ → Checked
+refusedAt number place = record { number = number; place = place; records = 0; length = 0; homes = replicate 16 0 }
+
+-- before the first of the records of a lent table of so many: 16, then 8
+unfoldable pub begun : List ℕ → ℕ → ℕ → Checked
+begun text lent count =
+    cond (ltb lent count) (refusedAt badNumber 0)
+    (cond (not (soundText text)) (refusedAt badText 0)
+    (record { number = accepted; place = 0; records = count; length = 16 + length text; homes = replicate 16 0 }))
+
+-- the bytes of a record's chunks: its Ctab, and its Cntt where it has one
+unfoldable pub chunksSize : SecondTable → ℕ
+chunksSize Absent = 35
+chunksSize (Value v) = 45
+
+-- record number i looked at: 9, then 10; a refusal stays
+unfoldable pub looked : Checked → ℕ → Record → Checked
+looked x i r =
+    cond (not (eqb (x .number) accepted)) x
+    (cond (ltb (firstBad firstEdition r) 26) (refusedAt outOfRange (27 * i + firstBad firstEdition r))
+    (cond (not (eqb (getD (x .homes) (channelOf r) 0) 0)) (refusedAt channelAgain (27 * i))
+    (record { number = accepted; place = 0; records = x .records; length = x .length + chunksSize (r .second); homes = set (x .homes) (channelOf r) (i + 1) })))
+
+-- the first n records looked at
+unfoldable pub lookedAt : Checked → List Record → ℕ → Checked
+lookedAt x rs zero = x
+lookedAt x rs (suc n) = looked (lookedAt x rs n) n (getD rs n blank)
+
+-- a plan that refuses
+unfoldable pub noPlan : ℕ → ℕ → Plan
+noPlan number place = record { number = number; place = place; records = 0; length = 0 }
+
+-- all records looked at, and so much room: 14 comes last
+unfoldable pub planned : Checked → ℕ → Plan
+planned x room =
+    cond (not (eqb (x .number) accepted)) (noPlan (x .number) (x .place))
+    (cond (ltb room (x .length)) (noPlan noRoom 0)
+    (record { number = accepted; place = 0; records = x .records; length = x .length }))
+
+-- the answer of a plan
+unfoldable pub measuredBy : Plan → Measured
+measuredBy p = record { number = p .number; place = p .place; length = p .length }
+
+-- ---- what the plan writes before the records' chunks
+
+-- the place where they go
+unfoldable pub startPlace : List ℕ → Plan → ℕ
+startPlace text p = cond (eqb (p .number) accepted) (16 + length text) 0
+
+-- the group's header and its Sdec; nothing on refusal
+unfoldable pub startBytes : List ℕ → Plan → List ℕ
+startBytes text p = cond (eqb (p .number) accepted) (CSEG ++ (four (p .length - 8) ++ chunk Sdec text)) []
+
+-- the plan for a text, a lent table, a count and so much room
+unfoldable pub planOf : List ℕ → List Record → ℕ → ℕ → Plan
+planOf text rs count room =
+    let x = begun text (length rs) count in
+    planned (lookedAt x rs (x .records)) room

@@ -1,0 +1,136 @@
+// What may be written (document 01, "Numbers of refusal": writing): 16, 8, per record 9 then 10, and room 14 last.
+ghost use mathlib.Core.Path.{_≡_};
+ghost use Prim.Native.Nat.{_+_, _*_, _≤_, _<_};
+ghost use lib.ListN.{length};
+ghost use Rattle.write.specs.Checking.{refusedAt, begun, chunksSize, looked, noPlan, planned, measuredBy};
+use layout::answer::Measured;
+use layout::record::Record;
+use layout::record::SecondTable;
+
+// What the records looked at so far come to: a refusal, or how many are to be looked at in all, the group's length with those seen,
+// and for each source channel 0, or one more than the number of its record.
+pub struct Checked {
+    pub number: u8,
+    pub place: usize,
+    pub records: usize,
+    pub length: usize,
+    pub homes: [usize; 16],
+}
+
+// What writing comes to: the refusal, or how many records go into a group of so many bytes.
+pub struct Plan {
+    pub number: u8,
+    pub place: usize,
+    pub records: usize,
+    pub length: usize,
+}
+
+fn refused_at(number: u8, place: usize) -> Checked
+    ensures { λ r. ⌜ r ≡ refusedAt number place ⌝ }
+{
+    Checked {
+        number: number,
+        place: place,
+        records: 0,
+        length: 0,
+        homes: [0; 16],
+    }
+}
+
+// Before the first record: 16 where the count exceeds the lent table, then 8.
+pub fn begin(text: &[u8], lent: usize, count: usize) -> Checked
+    ensures { λ r. ⌜ r ≡ begun (now (text .entry)) lent count ⌝ }
+{
+    if lent < count {
+        return refused_at(16, 0);
+    }
+    if !names::is_sound_text(text) {
+        return refused_at(8, 0);
+    }
+    Checked {
+        number: 0,
+        place: 0,
+        records: count,
+        length: 16 + text.len(),
+        homes: [0; 16],
+    }
+}
+
+// The bytes of a record's chunks: its Ctab, and its Cntt where it has one.
+fn chunks_size(second: SecondTable) -> usize
+    ensures { λ r. ⌜ r ≡ chunksSize second ⌝ }
+{
+    match second {
+        SecondTable::Absent => 35,
+        SecondTable::Value(_) => 45,
+    }
+}
+
+// Record number i: its first byte out of range, then a source channel that an earlier record has. A refusal stays.
+pub fn look_at(x: Checked, i: usize, r: Record) -> Checked
+    requires { ⌜ (i < 340000000000000000) × (x .length ≤ 271 + 45 * i) ⌝ }
+    ensures { λ y. ⌜ y ≡ looked x i r ⌝ }
+{
+    if x.number != 0 {
+        return x;
+    }
+    let source = r.source;
+    let second = r.second;
+    let k = record::held::first_bad(r);
+    if k < 26 {
+        return refused_at(9, 27 * i + k);
+    }
+    let channel = source.0 as usize;
+    let mut homes = x.homes;
+    if homes[channel] != 0 {
+        return refused_at(10, 27 * i);
+    }
+    homes[channel] = i + 1;
+    Checked {
+        number: 0,
+        place: 0,
+        records: x.records,
+        length: x.length + chunks_size(second),
+        homes: homes,
+    }
+}
+
+fn no_plan(number: u8, place: usize) -> Plan
+    ensures { λ r. ⌜ r ≡ noPlan number place ⌝ }
+{
+    Plan {
+        number: number,
+        place: place,
+        records: 0,
+        length: 0,
+    }
+}
+
+// All records looked at: 14 where the room is smaller than the group.
+pub fn plan_for(x: Checked, room: usize) -> Plan
+    ensures { λ r. ⌜ r ≡ planned x room ⌝ }
+{
+    if x.number != 0 {
+        return no_plan(x.number, x.place);
+    }
+    if room < x.length {
+        return no_plan(14, 0);
+    }
+    Plan {
+        number: 0,
+        place: 0,
+        records: x.records,
+        length: x.length,
+    }
+}
+
+// The answer of a plan.
+pub fn measured(p: Plan) -> Measured
+    ensures { λ r. ⌜ r ≡ measuredBy p ⌝ }
+{
+    Measured {
+        number: p.number,
+        place: p.place,
+        length: p.length,
+    }
+}

@@ -1,0 +1,5 @@
+// Writing (document 01, "Writing and editing"): each chunk into the rest of what is left.
+pub mod check;
+pub mod chunks;
+pub mod put;
+pub mod start;
