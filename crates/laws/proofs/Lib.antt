@@ -8,3 +8,4 @@ pub mod Damage
 pub mod Calls
 pub mod Tested
 pub mod Reading
+pub mod Determined
