@@ -66,7 +66,7 @@ module _ (s : List ℕ) (n : ℕ) (b : Bytes s) (h : Accepted s n) where
       let at : (i : ℕ) → i < length (groupsOf s n) → getD (groupsOf s n) i noGroup ≡ groupNo s i = λ i u. getD-rows (groupNo s) noGroup n i (below i u) in
       record {
         each = λ i u. rw (at i u) (allowed-of i (below i u));
-        few = rw length-rows (h .few);
+        few = omega (arith, length-rows (groupNo s) 0 n, h .few);
         apart = λ i j u v. rw (at i (omega arith), at j v) (apart-of i j u (below j v));
         short = rw body-back (h .short);
       }

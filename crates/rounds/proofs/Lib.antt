@@ -22,3 +22,11 @@ pub mod EditGranted
 pub mod EditPlace
 pub mod EditRounds
 pub mod Rounds
+pub mod Numbered
+pub mod Writing
+pub mod ReadGroup
+pub mod Lent
+pub mod ReadWrittenCall
+pub mod WrittenReadCall
+pub mod EditCall
+pub mod FieldCall

@@ -1,6 +1,7 @@
 -- Demand 2, the round trips: bytes that are accepted are given back when written, and values that are allowed are given back when read.
 use Prim.Native.Nat.{ℕ, _≤_}
 use mathlib.Core.Path.{_≡_}
+use mathlib.Core.Logic.{_↔_}
 use mathlib.Core.List.{List, flatMap}
 use lib.ListN.{length, take, set}
 use Rattle.layout.specs.declared.record.Record.{Record}
@@ -57,6 +58,9 @@ accepted-is-written s n b e =
 -- .. and nothing else is
 pub written-is-accepted : (s : List ℕ) (n : ℕ) → WrittenAs s n → bodyRun s ≡ Ended n
 written-is-accepted s n w = rw (← (w .bytes), ← (w .count)) (body-run (w .groups) (w .allowed))
+
+pub accepted-exactly : (s : List ℕ) (n : ℕ) → Bytes s → (bodyRun s ≡ Ended n) ↔ WrittenAs s n
+accepted-exactly s n b = (accepted-is-written s n b, written-is-accepted s n)
 
 -- a body after an edit is read as the body before it but for that one record, whose Cntt is kept
 pub edit-read : (s after : List ℕ) (g channel : ℕ) (new : Record) → Bytes s → Whole new → edited s g channel new ≡ granted after → EditRead s after g channel new
