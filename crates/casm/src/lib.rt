@@ -1,5 +1,8 @@
 // The public face: every call of document 01. A call takes every input; what it promises is one definition of the layout.
 pub mod editing;
+pub mod field;
 pub mod list;
 pub mod questions;
 pub mod read;
+pub mod records;
+pub mod writing;
