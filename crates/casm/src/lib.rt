@@ -1,4 +1,5 @@
 // The public face: every call of document 01. A call takes every input; what it promises is one definition of the layout.
+pub mod bytes;
 pub mod editing;
 pub mod field;
 pub mod list;

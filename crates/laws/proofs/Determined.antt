@@ -3,8 +3,9 @@ use Prim.Native.Nat.{ℕ}
 use mathlib.Core.Path.{_≡_, sym, _∙_}
 use mathlib.Core.List.{List}
 use Rattle.layout.specs.declared.record.Record.{Record}
+use Rattle.layout.specs.declared.record.SecondTable.{SecondTable}
 use Rattle.layout.specs.Promises.{CasmFound, SectionShown, BodyRead, GroupFound, PartFound, ChannelFound, TextShown, RecordsRead, VoiceShown, VoiceFound}
-use Rattle.layout.specs.Promises.{PlaysTold, NotePlaced, GroupWritten, RecordEdited, FieldSet, FieldSetInPlace, Salvaged}
+use Rattle.layout.specs.Promises.{PlaysTold, NotePlaced, GroupWritten, RecordEdited, FieldSet, FieldSetInPlace, Salvaged, RecordMade, BytesTold}
 use Rattle.laws.specs.Determined.{Determines, DeterminesBoth}
 
 -- a promise that is an equation
@@ -48,6 +49,12 @@ note-placed r root note = equation _
 
 pub field-set : (old : Record) (index value : ℕ) → Determines (FieldSet old index value)
 field-set old index value = equation _
+
+pub record-made : (b : List ℕ) (second : SecondTable) → Determines (RecordMade b second)
+record-made b second = equation _
+
+pub bytes-told : (r : Record) → Determines (BytesTold r)
+bytes-told r = equation _
 
 -- ---- with lent memory at exit
 

@@ -5,7 +5,7 @@ use mathlib.Core.List.{List}
 use lib.ListN.{length, take, drop}
 use Rattle.layout.specs.Answers.{numberOf, valueOr, retold, lentAfter, answered, partOf, counted, countedAll, measured, named, grouped, spanned}
 use Rattle.layout.specs.Answers.{Answered, Counted, Measured, Located, Spanned, Grouped, Named, Channelled, Played, Placed, Changed}
-use Rattle.layout.specs.Records.{Record}
+use Rattle.layout.specs.Records.{Record, SecondTable, bytesOf, recordOf}
 use Rattle.layout.specs.Body.{bodyRead, groupFound, partFound, channelFound, channelled, textOf, recordsRead}
 use Rattle.layout.specs.Style.{casmFound, located}
 use Rattle.layout.specs.Salvage.{listNumbers, salvaged}
@@ -64,6 +64,14 @@ PlaysTold body name root type r = r ≡ played (whoPlays body name root type)
 -- a note placed by chord root
 abbrev pub NotePlaced : Record → ℕ → ℕ → Placed → Type 0
 NotePlaced record′ root note r = r ≡ placed (notePlaced record′ root note)
+
+-- the record of bytes 0-25 and a second table
+abbrev pub RecordMade : List ℕ → SecondTable → Record → Type 0
+RecordMade b second r = r ≡ recordOf b second
+
+-- bytes 0-25 of a record
+abbrev pub BytesTold : Record → List ℕ → Type 0
+BytesTold r b = b ≡ bytesOf r
 
 -- a group written at the start of a lent buffer; later bytes unchanged
 pub record GroupWritten (text : List ℕ) (table : List Record) (count : ℕ) (before : List ℕ) (r : Measured) (after : List ℕ) : Type 0 where

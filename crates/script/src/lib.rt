@@ -1,3 +1,2 @@
-// A script's lines, read in large blocks, and its answers, written in large blocks.
-pub mod lines;
+// The answers to a script, written in large blocks.
 pub mod print;

@@ -1,6 +1,6 @@
 // A group's records, one by one (document 01, "The CASM body"): what reading them comes to, and record number i by value. Filling a lent table is the face's.
 ghost use mathlib.Core.Path.{_≡_};
-ghost use Prim.Native.Nat.{_+_, _*_, _≤_, _<_};
+ghost use Prim.Native.Nat.{_+_, _*_, _≤_};
 ghost use lib.ListN.{length};
 ghost use Rattle.layout.specs.Group.{secondOf, recordAt};
 ghost use Rattle.table.specs.Reading.{noReading, toldOf, ReadingPlanned};

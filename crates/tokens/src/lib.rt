@@ -16,6 +16,18 @@ pub enum Taken {
     Bad,
 }
 
+// Two numbers that end a line, the second up to 255, or no such numbers.
+pub enum Tail {
+    Is(usize, u8),
+    Bad,
+}
+
+// The same where both are up to 255.
+pub enum Pair {
+    Are(u8, u8),
+    Bad,
+}
+
 // The most bytes that BYTES may be, and all the room for them.
 pub const ROOM: usize = 1048577;
 
@@ -42,20 +54,6 @@ pub fn is_end(line: &[u8], at: usize) -> bool {
     true
 }
 
-// The place where the line's first token ends.
-pub fn verb_end(line: &[u8]) -> usize
-    ensures { λ r. ⌜ r ≤ length (now (line .entry)) ⌝ }
-{
-    let mut i = 0;
-    while i < line.len() {
-        if line[i] == b' ' {
-            return i;
-        }
-        i += 1;
-    }
-    i
-}
-
 // The number that stands after the token that ends at `at`.
 pub fn take_number(line: &[u8], at: usize) -> Number
     ensures { λ r. ⌜ Numbered at (length (now (line .entry))) r ⌝ }
@@ -75,6 +73,34 @@ pub fn take_number(line: &[u8], at: usize) -> Number
         }
         Number::Bad => Number::Bad,
     }
+}
+
+// The two numbers that stand after the token that ends at `at`, with the line's end behind them.
+pub fn take_tail(line: &[u8], at: usize) -> Tail {
+    let Number::Is(one, end) = take_number(line, at) else {
+        return Tail::Bad;
+    };
+    let Number::Is(two, last) = take_number(line, end) else {
+        return Tail::Bad;
+    };
+    if last != line.len() {
+        return Tail::Bad;
+    }
+    if two > 255 {
+        return Tail::Bad;
+    }
+    Tail::Is(one, two as u8)
+}
+
+// The same for two numbers up to 255.
+pub fn take_pair(line: &[u8], at: usize) -> Pair {
+    let Tail::Is(one, two) = take_tail(line, at) else {
+        return Pair::Bad;
+    };
+    if one > 255 {
+        return Pair::Bad;
+    }
+    Pair::Are(one as u8, two)
 }
 
 // The BYTES that stand after the token that ends at `at`, put into the room from its start.

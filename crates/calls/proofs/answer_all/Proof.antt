@@ -1,15 +1,15 @@
 -- The places stay sound from turn to turn; what falls is the count of turns.
+use Rattle.lines.specs.Reading.{Sound}
 use Rattle.script.specs.Printing.{Waits}
-use Rattle.script.specs.Reading.{Sound}
 use borrow.Author.Needs.{needs}
 use Rattle.calls.proofs.answer_all.Statement.{statement}
 use Rattle.calls.proofs.answer_all.Tie as tie
 
 abbrev Inv-loop : tie.InvT-loop
-Inv-loop text₀ room₀ list₀ out₀ turns₀ g₀ text room list out turns g = (Sound (g .reader)) × (Waits (g .used))
+Inv-loop text₀ room₀ name₀ list₀ out₀ turns₀ reader₀ used₀ text room name list out turns reader used = (Sound reader) × (Waits used)
 
 abbrev μ-loop : tie.MeasureT-loop
-μ-loop text₀ room₀ list₀ out₀ turns₀ g₀ text room list out turns g = turns
+μ-loop text₀ room₀ name₀ list₀ out₀ turns₀ reader₀ used₀ text room name list out turns reader used = turns
 
 start-requires : tie.Need-start-requires Inv-loop μ-loop
 start-requires c κs = search needs
@@ -17,8 +17,11 @@ start-requires c κs = search needs
 loop-holds : tie.Need-loop-holds Inv-loop μ-loop
 loop-holds c = search needs
 
-turn-requires : tie.Need-turn-requires Inv-loop μ-loop
-turn-requires c κs = search needs
+next-requires : tie.Need-next-requires Inv-loop μ-loop
+next-requires c κs = search needs
+
+answer-step-requires : tie.Need-answer-step-requires Inv-loop μ-loop
+answer-step-requires c κs = search needs
 
 sub-turns : tie.Need-sub-turns Inv-loop μ-loop
 sub-turns c = search needs
@@ -43,7 +46,8 @@ answer-all-spec =
     μ-loop
     start-requires
     loop-holds
-    turn-requires
+    next-requires
+    answer-step-requires
     sub-turns
     loop-less
     loop-again

@@ -2,9 +2,9 @@
 -- The table is looked into once, before the loop, and shut once, after it. The output is lent again in each turn, for a lifetime that is made for the call, and comes back (`Again.antt`).
 -- After i turns the output is what `Passes.antt` says of the chunks of the first i records.
 use mathlib.Core.Path.{_≡_, refl, sym, ap, subst, _∙_}
-use Prim.Native.Nat.{ℕ, zero, suc, _+_, _*_, _-_, _<_, _≤_, _^_, zero-le}
+use Prim.Native.Nat.{ℕ, _+_, _*_, _-_, _<_, _≤_, _^_, zero-le}
 use native.Mathlib.Nat.{le-antisymm}
-use native.Mathlib.Numerals.{add-one, add-one-le, add-one-dec}
+use native.Mathlib.Numerals.{add-one-le, add-one-dec}
 use native.Mathlib.Omega.{arith}
 use mathlib.Core.Bool.{Bool, true, false}
 use mathlib.Core.WellFounded.{WellFounded, InvImage·wf}
@@ -64,7 +64,7 @@ use Rattle.write.proofs.chunks.put_chunk.Symbol as put-def
 use Rattle.write.proofs.chunks.put_chunk.Symbol.{name as #write·put-chunk}
 use Rattle.write.proofs.chunks.put_chunk.Met as put-thm
 use Rattle.lent.proofs.put_chunks.Key.{name as #lent·put-chunks}
-use Rattle.lent.proofs.put_chunks as write
+use Rattle.lent.proofs.put_chunks as pass
 use Rattle.lent.proofs.put_chunks.Statement as stated
 use Rattle.lent.proofs.put_chunks.Code as code
 use Rattle.lent.proofs.put_chunks.Code.Mir as mir
@@ -81,7 +81,7 @@ Num = plain (λ _. usize)
 abbrev Flag : Slot 2
 Flag = plain (λ _. bool)
 
-abbrev stayed : Stays (write.ended .signature .params) (write.ended .kept)
+abbrev stayed : Stays (pass.ended .signature .params) (pass.ended .kept)
 stayed = (stay-none-slice (0 ∷ []) tt (plain (λ _. R)) yes, (stay-dropped Num yes, (stay-slice (1 ∷ []) tt (plain (λ _. u8)), (stay-dropped Num yes, (stay-dropped Flag yes, tt)))))
 
 -- ---- numbers and lists
@@ -138,7 +138,7 @@ module _ {M : Type 1} (𝓤 : URA M) (H : Heap 𝓤) (A : Atoms 𝓤) (W : Given
   OwnOut l m = MutSlice (named 1) κ₂ u8 .own (x γ l) (s m ∷ [])
 
   abbrev Post : Val → SProp 𝓤
-  Post = walkOf 𝓤 H A write.ended stayed (write.clauses 𝓤 H A mem run) .post (((κ₁, (κ₂, tt)), (q₁, (q₂, tt)), tt, a, args), tt)
+  Post = walkOf 𝓤 H A pass.ended stayed (pass.clauses 𝓤 H A mem run) .post (((κ₁, (κ₂, tt)), (q₁, (q₂, tt)), tt, a, args), tt)
 
   out-len : (i : ℕ) → to-at i ≤ length out → length (out-at i) ≡ length out
   out-len i = replaced-length out at (made i)
@@ -146,7 +146,7 @@ module _ {M : Type 1} (𝓤 : URA M) (H : Heap 𝓤) (A : Atoms 𝓤) (W : Given
   exits : to-at n ≤ length out → to-at n < 2 ^ 64 → ent 𝓤 (⋆ 𝓤 H A (‵ (flft κ₁ q₁) ∷ ‵ (OwnOut (out-at n) (length (out-at n))) ∷ ‵ (flft κ₂ q₂) ∷ ‵ Own ∷ [])) (Post (vint w64 (to-at n)))
   exits within fits =
       qed W (‵ (flft κ₁ q₁) ∷ ‵ (OwnOut (out-at n) (length (out-at n))) ∷ ‵ (flft κ₂ q₂) ∷ ‵ Own ∷ []) ∵
-      suffices ! _ (ends-at 𝓤 H A write.ended stayed (write.clauses 𝓤 H A mem run) W (((κ₁, (κ₂, tt)), (q₁, (q₂, tt)), tt, a, args), tt) (vint w64 (to-at n)) (to-at n) (tt, (tt, (out-at n, (tt, (tt, tt))))) (tt, (tt, (out-len n within, (tt, (tt, tt)))))) $
+      suffices ! _ (ends-at 𝓤 H A pass.ended stayed (pass.clauses 𝓤 H A mem run) W (((κ₁, (κ₂, tt)), (q₁, (q₂, tt)), tt, a, args), tt) (vint w64 (to-at n)) (to-at n) (tt, (tt, (out-at n, (tt, (tt, tt))))) (tt, (tt, (out-len n within, (tt, (tt, tt)))))) $
       says ! (refl, refl) $ rewrite ! 1 (λ (m : ℕ). ‵ (OwnOut (out-at n) m)) (out-len n within) refl $
       nothing ! $ move ! (3 ∷ 0 ∷ []) $ join ! $ move ! (1 ∷ 0 ∷ []) $ join ! $ frame ! $
       -- [what the output owns; what the table owns]
@@ -325,7 +325,7 @@ module _ {M : Type 1} (𝓤 : URA M) (H : Heap 𝓤) (A : Atoms 𝓤) (W : Given
       looped : Sq W (At (0, zero-le)) (runs C Λ En mir.t-3 (atRet En Post))
       looped = first ! $ blocks ! $ loops ! 𝓣 Nearer Nearer-wf At turns (0, zero-le)
 
-    walk : ent 𝓤 (onEntry 𝓤 H A write.signature (κ₁, (κ₂, tt)) (q₁, (q₂, tt)) a args) (WpFn 𝓤 H C Λ code.function (s₁ ∷ vint w64 n ∷ s (length out) ∷ vint w64 at ∷ vbool seconds ∷ []) Post)
+    walk : ent 𝓤 (onEntry 𝓤 H A pass.signature (κ₁, (κ₂, tt)) (q₁, (q₂, tt)) a args) (WpFn 𝓤 H C Λ code.function (s₁ ∷ vint w64 n ∷ s (length out) ∷ vint w64 at ∷ vbool seconds ∷ []) Post)
     walk =
         qed W ((‵ (flft κ₁ q₁) ⊛ ‵ (flft κ₂ q₂) ⊛ ‵ ftrue) ∷ ‵ (owns (ShrSlice (named 0) κ₁ R ∷ usize ∷ MutSlice (named 1) κ₂ u8 ∷ usize ∷ bool ∷ []) a args) ∷ []) ∵ enter ! C Λ code.function (s₁ ∷ vint w64 n ∷ s (length out) ∷ vint w64 at ∷ vbool seconds ∷ []) _ $
         alloc1 ! (λ l₀. alloc1 ! (λ l₁. alloc1 ! (λ l₂. alloc1 ! (λ l₃. alloc1 ! (λ l₄. alloc1 ! (λ l₅. alloc1 ! (λ l₆. alloc1 ! (λ l₇. alloc1 ! (λ l₈. alloc1 ! (λ l₉. alloc1 ! (λ l₁₀. alloc1 ! (λ l₁₁. alloc1 ! (λ l₁₂. alloc1 ! (λ l₁₃. alloc1 ! (λ l₁₄. alloc0 ! $ params1 ! $
@@ -351,22 +351,22 @@ module _ {M : Type 1} (𝓤 : URA M) (H : Heap 𝓤) (A : Atoms 𝓤) (W : Given
         to-start = omega (arith, ap length (chunks-none seconds rs))
 
 module _ {M : Type 1} (𝓤 : URA M) (H : Heap 𝓤) (A : Atoms 𝓤) (W : Given 𝓤 H A) (mem : Memory → SProp 𝓤) (run : Routine → Fun 𝓤) (𝓣 : Tables 𝓤 H) where
-  write-walks : Triple 𝓤 (𝓣 .C #write·put-chunk) (Put 𝓤 H A mem run) → Walks 𝓤 H A write.ended stayed (WpFn 𝓤 H (𝓣 .C) (𝓣 .Λ) code.function) (write.clauses 𝓤 H A mem run)
-  write-walks known = walked 𝓤 H A write.ended stayed (write.clauses 𝓤 H A mem run) (WpFn 𝓤 H (𝓣 .C) (𝓣 .Λ) code.function)
+  pass-walks : Triple 𝓤 (𝓣 .C #write·put-chunk) (Put 𝓤 H A mem run) → Walks 𝓤 H A pass.ended stayed (WpFn 𝓤 H (𝓣 .C) (𝓣 .Λ) code.function) (pass.clauses 𝓤 H A mem run)
+  pass-walks known = walked 𝓤 H A pass.ended stayed (pass.clauses 𝓤 H A mem run) (WpFn 𝓤 H (𝓣 .C) (𝓣 .Λ) code.function)
       (λ κs. (slice-vals, (uint-vals w64, (slice-vals, (uint-vals w64, (bool-vals, tt)))))) (λ κs. (shr-slice-tells (named 0) (κs .0) R, (uint-tells w64, (mut-slice-tells (named 1) (κs .1 .0) u8, (uint-tells w64, (bool-tells, tt))))))
       (λ κs qs bounds a g are. needs 𝓤 ((a .1 .0 ≤ length (a .0 .now)) × (a .1 .1 .1 .0 + length (chunksOf (a .1 .1 .1 .1 .0) (take (a .1 .0) (a .0 .now))) ≤ length (a .1 .1 .0 .now))) _ (λ h.
       walk 𝓤 H A W mem run (κs .0) (κs .1 .0) (qs .0) (qs .1 .0) (a .0) (a .1 .0) (are .1 .0 .1) (a .1 .1 .0 .ptr .0) (a .1 .1 .0 .ptr .1) (a .1 .1 .0 .name) (a .1 .1 .0 .now) (a .1 .1 .1 .0) (are .1 .1 .1 .0 .1) (a .1 .1 .1 .1 .0) 𝓣 known (are .0 .0 .1) (are .1 .1 .0 .0 .1) (h .0) (h .1)))
 
-write-meets : {M : Type 1} (𝓤 : URA M) (H : Heap 𝓤) (A : Atoms 𝓤) → Given 𝓤 H A → (mem : Memory → SProp 𝓤) (run : Routine → Fun 𝓤) (𝓣 : Tables 𝓤 H)
-    → Triple 𝓤 (𝓣 .C #write·put-chunk) (Put 𝓤 H A mem run) → Meets 𝓤 H A write.signature (WpFn 𝓤 H (𝓣 .C) (𝓣 .Λ) code.function) (write.spec 𝓤 H A mem run)
-write-meets 𝓤 H A W mem run 𝓣 known =
-    walk-meets 𝓤 H A write.ended stayed W (goes-none-slice 𝓤 H A W 2 (0 ∷ []) tt (plain (λ _. R)) yes, (goes-dropped 𝓤 H A W 2 Num yes (λ κs x f. refl), (goes-slice 𝓤 H A W 2 1 tt (plain (λ _. u8)), (goes-dropped 𝓤 H A W 2 Num yes (λ κs x f. refl), (goes-dropped 𝓤 H A W 2 Flag yes (λ κs x f. refl), tt))))) (write.clauses 𝓤 H A mem run)
-    (WpFn 𝓤 H (𝓣 .C) (𝓣 .Λ) code.function) (WpFn-mono 𝓤 H (W .laws) 𝓣 code.function) (write-walks 𝓤 H A W mem run 𝓣 known)
+pass-meets : {M : Type 1} (𝓤 : URA M) (H : Heap 𝓤) (A : Atoms 𝓤) → Given 𝓤 H A → (mem : Memory → SProp 𝓤) (run : Routine → Fun 𝓤) (𝓣 : Tables 𝓤 H)
+    → Triple 𝓤 (𝓣 .C #write·put-chunk) (Put 𝓤 H A mem run) → Meets 𝓤 H A pass.signature (WpFn 𝓤 H (𝓣 .C) (𝓣 .Λ) code.function) (pass.spec 𝓤 H A mem run)
+pass-meets 𝓤 H A W mem run 𝓣 known =
+    walk-meets 𝓤 H A pass.ended stayed W (goes-none-slice 𝓤 H A W 2 (0 ∷ []) tt (plain (λ _. R)) yes, (goes-dropped 𝓤 H A W 2 Num yes (λ κs x f. refl), (goes-slice 𝓤 H A W 2 1 tt (plain (λ _. u8)), (goes-dropped 𝓤 H A W 2 Num yes (λ κs x f. refl), (goes-dropped 𝓤 H A W 2 Flag yes (λ κs x f. refl), tt))))) (pass.clauses 𝓤 H A mem run)
+    (WpFn 𝓤 H (𝓣 .C) (𝓣 .Λ) code.function) (WpFn-mono 𝓤 H (W .laws) 𝓣 code.function) (pass-walks 𝓤 H A W mem run 𝓣 known)
 
 pub put-chunks-spec : {M : Type 1} → stated.statement M
 unfolding code.routine tablesOf
 put-chunks-spec 𝓤 H 𝓜 𝓖 𝓡 =
-    entered 𝓤 H (tripleOf 𝓤 H (𝓖 .A) write.signature (write.spec 𝓤 H (𝓖 .A) (𝓜 .mem) (𝓡 .run)))
+    entered 𝓤 H (tripleOf 𝓤 H (𝓖 .A) pass.signature (pass.spec 𝓤 H (𝓖 .A) (𝓜 .mem) (𝓡 .run)))
     (tables 𝓤 H 𝓜 𝓡 code.env .C) (tables 𝓤 H 𝓜 𝓡 code.env .Λ) #lent·put-chunks code.function (code.unfolded 𝓤 H 𝓜 𝓡)
-    (write-meets 𝓤 H (𝓖 .A) (givenOf 𝓤 H 𝓜 𝓖) (𝓜 .mem) (𝓡 .run) (tablesOf 𝓤 H 𝓜 (tables 𝓤 H 𝓜 𝓡 code.env))
+    (pass-meets 𝓤 H (𝓖 .A) (givenOf 𝓤 H 𝓜 𝓖) (𝓜 .mem) (𝓡 .run) (tablesOf 𝓤 H 𝓜 (tables 𝓤 H 𝓜 𝓡 code.env))
     (cited 𝓤 H (Put 𝓤 H (𝓖 .A) (𝓜 .mem) (𝓡 .run)) 𝓜 𝓡 code.env #write·put-chunk put-def.routine code.calls-write·chunks·put-chunk (put-thm.met 𝓤 H 𝓜 𝓖 𝓡)))

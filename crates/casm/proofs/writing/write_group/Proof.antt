@@ -141,12 +141,15 @@ module _ {M : Type 1} (𝓤 : URA M) (H : Heap 𝓤) (A : Atoms 𝓤) (W : Given
   abbrev args : List Val × (List Val × (List Val × (List Val × Unit {0})))
   args = (s₁ ∷ [], (s₂ ∷ [], (vint w64 count ∷ [], (s (length out) ∷ [], tt))))
 
-  -- the plan; the places where the Ctabs and the Cntts go, and those chunks; the output after each step
+  -- the plan and its number of records; the places where the Ctabs and the Cntts go, and those chunks; the output after each step
   abbrev pl : Plan
   pl = planOf ts rs count (length out)
 
+  abbrev n : ℕ
+  n = pl .records
+
   abbrev chunks : Bool → List ℕ
-  chunks seconds = chunksOf seconds (take (pl .records) rs)
+  chunks seconds = chunksOf seconds (take (n) rs)
 
   abbrev at₁ : ℕ
   at₁ = startPlace ts pl
@@ -215,14 +218,14 @@ module _ {M : Type 1} (𝓤 : URA M) (H : Heap 𝓤) (A : Atoms 𝓤) (W : Given
       nothing ! $ owned ! P.the-row (Is P.the-row) (LL.makes P.the-type P′.the-plain 𝓤 H A) pl _ g $ fjoin ! $ move ! (2 ∷ 0 ∷ []) $ fjoin ! $ move ! (1 ∷ 0 ∷ []) $ fjoin ! $ done !
 
   abbrev to-put : ℕ → GName → List ℕ → ℕ → Bool → Put 𝓤 H A mem run .Ghost
-  to-put ν δ l at seconds = (((κ₂, (ν ∷ [], tt)), (q₂, (fullShare, tt)), tt, (table, (pl .records, (x δ l, (at, (seconds, tt))))), (s₂ ∷ [], (vint w64 (pl .records) ∷ [], (s (length l) ∷ [], (vint w64 at ∷ [], (vbool seconds ∷ [], tt)))))), tt)
+  to-put ν δ l at seconds = (((κ₂, (ν ∷ [], tt)), (q₂, (fullShare, tt)), tt, (table, (n, (x δ l, (at, (seconds, tt))))), (s₂ ∷ [], (vint w64 n ∷ [], (s (length l) ∷ [], (vint w64 at ∷ [], (vbool seconds ∷ [], tt)))))), tt)
 
-  goes-put : (ν : ℕ) (δ : GName) (l : List ℕ) (at : ℕ) (seconds : Bool) → pl .records < 2 ^ 64 → at < 2 ^ 64 → at + length (chunks seconds) ≤ length l
+  goes-put : (ν : ℕ) (δ : GName) (l : List ℕ) (at : ℕ) (seconds : Bool) → n < 2 ^ 64 → at < 2 ^ 64 → at + length (chunks seconds) ≤ length l
       → ent 𝓤 (sep 𝓤 (sep 𝓤 (sem 𝓤 H A OwnTab) (sem 𝓤 H A (OwnSecond ν δ l))) (sep 𝓤 (A .lft κ₂ q₂) (A .lft (ν ∷ []) fullShare))) (Put 𝓤 H A mem run .pre (to-put ν δ l at seconds))
   goes-put ν δ l at seconds n-fits at-fits within = qed W ((‵ OwnTab ⊛ ‵ (OwnSecond ν δ l)) ∷ ‵ (flft κ₂ q₂) ∷ ‵ (flft (ν ∷ []) fullShare) ∷ []) ∵ says ! (fits .within, within) $
       nothing ! $ move ! (3 ∷ 0 ∷ []) $ join ! $ move ! (2 ∷ 0 ∷ []) $ join ! $ frame ! $ split ! $
       nothing ! $ owned ! bool (Is bool) (bool-makes 𝓤 H A W) seconds _ refl $ fjoin ! $ owned ! usize (Is usize) (uint-makes 𝓤 H A W w64) at _ (refl, at-fits) $ fjoin ! $ move ! (2 ∷ 0 ∷ []) $ fjoin ! $
-      owned ! usize (Is usize) (uint-makes 𝓤 H A W w64) (pl .records) _ (refl, n-fits) $ fjoin ! $ move ! (1 ∷ 0 ∷ []) $ fjoin ! $ done !
+      owned ! usize (Is usize) (uint-makes 𝓤 H A W w64) (n) _ (refl, n-fits) $ fjoin ! $ move ! (1 ∷ 0 ∷ []) $ fjoin ! $ done !
 
   abbrev to-measure : Measure 𝓤 H A mem run .Ghost
   to-measure = ((tt, tt, tt, (pl, tt), (valsP pl, tt)), tt)
@@ -253,7 +256,7 @@ module _ {M : Type 1} (𝓤 : URA M) (H : Heap 𝓤) (A : Atoms 𝓤) (W : Given
     abbrev slice₁₁ : Ty
     slice₁₁ = sliceTy ref
 
-    n-fits : pl .records < 2 ^ 64
+    n-fits : n < 2 ^ 64
     n-fits = omega (arith, fits .within, room₂ .0)
 
     at₁-fits : at₁ < 2 ^ 64
@@ -273,7 +276,7 @@ module _ {M : Type 1} (𝓤 : URA M) (H : Heap 𝓤) (A : Atoms 𝓤) (W : Given
       -- the answer
       answered : length out₃ ≡ length out → Sq W (‵ (flft κ₁ q₁) ∷ ‵ (flft κ₂ q₂) ∷ ‵ (OwnOut out₃ (length out₃)) ∷ ‵ (flft κ₃ q₃)
           ∷ ‵ (froom slice₁₁ l₁₅ 0) ∷ ‵ (fdies slice₁₁ l₁₅) ∷ ‵ (froom ref l₁₄ 0) ∷ ‵ (fdies ref l₁₄) ∷ ‵ (froom slice₁₁ l₁₃ 0) ∷ ‵ (fdies slice₁₁ l₁₃) ∷ ‵ (froom ref l₁₂ 0) ∷ ‵ (fdies ref l₁₂) ∷ ‵ (froom slice₁₁ l₁₁ 0) ∷ ‵ (fdies slice₁₁ l₁₁) ∷ ‵ (froom ref l₁₀ 0) ∷ ‵ (fdies ref l₁₀) ∷ ‵ (froom word l₉ 0) ∷ ‵ (fdies word l₉)
-          ∷ ‵ (fat fullShare word l₈ 0 (vint w64 at₂)) ∷ ‵ (fdies word l₈) ∷ ‵ (fat fullShare word l₇ 0 (vint w64 (pl .records))) ∷ ‵ (fdies word l₇) ∷ ‵ (fat fullShare word l₆ 0 (vint w64 at₁)) ∷ ‵ (fdies word l₆) ∷ Low (length out₃)) (runs C Λ En mir.t-13 (atRet En Post))
+          ∷ ‵ (fat fullShare word l₈ 0 (vint w64 at₂)) ∷ ‵ (fdies word l₈) ∷ ‵ (fat fullShare word l₇ 0 (vint w64 n)) ∷ ‵ (fdies word l₇) ∷ ‵ (fat fullShare word l₆ 0 (vint w64 at₁)) ∷ ‵ (fdies word l₆) ∷ Low (length out₃)) (runs C Λ En mir.t-13 (atRet En Post))
       answered len =
           owned ! P.the-row (Is P.the-row) (LL.makes P.the-type P′.the-plain 𝓤 H A) pl _ g $ use1 W (raw (Measure 𝓤 H A mem run .pre to-measure)) goes-measure $
           calls-at ! fm (Measure 𝓤 H A mem run) known-measure to-measure (and-then ! (load ! (from ! (stop !)) (look ! 25 refl)) (no-more !)) (λ w.
@@ -289,19 +292,19 @@ module _ {M : Type 1} (𝓤 : URA M) (H : Heap 𝓤) (A : Atoms 𝓤) (W : Given
       -- the Cntts
       cntts : length out₂ ≡ length out → Sq W (‵ OwnTab ∷ ‵ (flft κ₁ q₁) ∷ ‵ (flft κ₂ q₂) ∷ ‵ (OwnOut out₂ (length out₂)) ∷ ‵ (flft κ₃ q₃)
           ∷ ‵ (froom slice₁₁ l₁₅ 0) ∷ ‵ (fdies slice₁₁ l₁₅) ∷ ‵ (froom ref l₁₄ 0) ∷ ‵ (fdies ref l₁₄) ∷ ‵ (froom slice₁₁ l₁₃ 0) ∷ ‵ (fdies slice₁₁ l₁₃) ∷ ‵ (froom ref l₁₂ 0) ∷ ‵ (fdies ref l₁₂) ∷ ‵ (froom slice₁₁ l₁₁ 0) ∷ ‵ (fdies slice₁₁ l₁₁) ∷ ‵ (froom ref l₁₀ 0) ∷ ‵ (fdies ref l₁₀) ∷ ‵ (fat fullShare word l₉ 0 (vint w64 (length out))) ∷ ‵ (fdies word l₉)
-          ∷ ‵ (fat fullShare word l₈ 0 (vint w64 at₂)) ∷ ‵ (fdies word l₈) ∷ ‵ (fat fullShare word l₇ 0 (vint w64 (pl .records))) ∷ ‵ (fdies word l₇) ∷ ‵ (fat fullShare word l₆ 0 (vint w64 at₁)) ∷ ‵ (fdies word l₆) ∷ Low (length out₂)) (runs C Λ En mir.t-10 (atRet En Post))
+          ∷ ‵ (fat fullShare word l₈ 0 (vint w64 at₂)) ∷ ‵ (fdies word l₈) ∷ ‵ (fat fullShare word l₇ 0 (vint w64 n)) ∷ ‵ (fdies word l₇) ∷ ‵ (fat fullShare word l₆ 0 (vint w64 at₁)) ∷ ‵ (fdies word l₆) ∷ Low (length out₂)) (runs C Λ En mir.t-10 (atRet En Post))
       cntts len =
           assigns ! (addr ! (from ! (fld ! refl (hop ! (look-in ! 27 (sub ! 0 refl (whole !))) (stop !))))) (from ! (stop !)) (init ! 7 refl (tt, tt)) $
           assigns ! (agg ! (and-then ! (load ! (from ! (stop !)) (look ! 7 refl)) (and-then ! (load ! (from ! (fld ! refl (stop !))) (look-in ! 27 (sub ! 1 refl (whole !)))) (no-more !)))) (from ! (stop !)) (init ! 5 refl (tt, (tt, (record { fits = here .0 }, tt)))) $
           lft-new ! tt (λ ν. move ! (4 ∷ 5 ∷ []) $
           use2 W (later (some (λ (δ : GName). ‵ (OwnSecond ν δ out₂) ⊛ ‵ (LentAgain u8 κ₃ (ν ∷ []) q₃ γ b o δ out₂)))) (lends-again u8 κ₃ (ν ∷ []) q₃ γ b o 𝓤 H A W (named 2) (named 1) out₂) $ await ! tt $ pick ! (λ δ. split ! $
-          move ! (3 ∷ 0 ∷ []) $ join ! $ move ! (0 ∷ 4 ∷ 2 ∷ []) $ use3 W (raw (Put 𝓤 H A mem run .pre (to-put ν δ out₂ at₂ true))) (goes-put ν δ out₂ at₂ true n-fits at₂-fits within) $
+          move ! (3 ∷ 0 ∷ []) $ join ! $ move ! (0 ∷ 4 ∷ 2 ∷ []) $ use3 W (raw (Put 𝓤 H A mem run .pre (to-put ν δ out₂ to true))) (goes-put ν δ out₂ to true n-fits at₂-fits within) $
           -- [what `put_chunks` asks; what is left of the output; the text's token; _15; …]
-          calls-at ! fm (Put 𝓤 H A mem run) known-put (to-put ν δ out₂ at₂ true)
+          calls-at ! fm (Put 𝓤 H A mem run) known-put (to-put ν δ out₂ to true)
           (and-then ! (load ! (from ! (stop !)) (look ! 29 refl)) (and-then ! (load ! (from ! (stop !)) (look ! 19 refl)) (and-then ! (load ! (from ! (stop !)) (look ! 3 refl)) (and-then ! (load ! (from ! (stop !)) (look ! 17 refl)) (and-then ! (true-lit !) (no-more !)))))) (λ w.
-          use1 W (later (some (λ (m : ℕ). ((‵ (flft κ₂ q₂) ⊛ ‵ (flft (ν ∷ []) fullShare) ⊛ ‵ ftrue) ⊛ ‵ (usize .own m (w ∷ []))) ⊛ raw (ensured 𝓤 H A put.ended (put.clauses 𝓤 H A mem run) (κ₂, (ν ∷ [], tt)) (table, (pl .records, (x δ out₂, (at₂, (true, tt))))) tt m)))) (id⊢ 𝓤 _) $ await ! tt $ pick ! (λ m.
-          split ! $ move ! (1 ∷ []) $ use1 W (some (λ (zs : Unit {0} × (Unit {0} × (List ℕ × (Unit {0} × (Unit {0} × Unit {0}))))). ‵ (lasts put.ended (κ₂, (ν ∷ [], tt)) (table, (pl .records, (x δ out₂, (at₂, (true, tt))))) zs) ⊛ raw (fact 𝓤 ((m ≡ at₂ + length (chunks true)) × (zs .1 .1 .0 ≡ out₃))))) (id⊢ 𝓤 _) $ pick ! (λ zs.
-          split ! $ move ! (1 ∷ []) $ heard ! ((m ≡ at₂ + length (chunks true)) × (zs .1 .1 .0 ≡ out₃)) (λ d. fsplit ! $ drop ! $ fsplit ! $ drop ! $ fsplit ! $ fsplit ! $ move ! (1 ∷ []) $ feqL ! (λ l.
+          use1 W (later (some (λ (m : ℕ). ((‵ (flft κ₂ q₂) ⊛ ‵ (flft (ν ∷ []) fullShare) ⊛ ‵ ftrue) ⊛ ‵ (usize .own m (w ∷ []))) ⊛ raw (ensured 𝓤 H A put.ended (put.clauses 𝓤 H A mem run) (κ₂, (ν ∷ [], tt)) (table, (n, (x δ out₂, (to, (true, tt))))) tt m)))) (id⊢ 𝓤 _) $ await ! tt $ pick ! (λ m.
+          split ! $ move ! (1 ∷ []) $ use1 W (some (λ (zs : Unit {0} × (Unit {0} × (List ℕ × (Unit {0} × (Unit {0} × Unit {0}))))). ‵ (lasts put.ended (κ₂, (ν ∷ [], tt)) (table, (n, (x δ out₂, (to, (true, tt))))) zs) ⊛ raw (fact 𝓤 ((m ≡ to + length (chunks true)) × (zs .1 .1 .0 ≡ out₃))))) (id⊢ 𝓤 _) $ pick ! (λ zs.
+          split ! $ move ! (1 ∷ []) $ heard ! ((m ≡ to + length (chunks true)) × (zs .1 .1 .0 ≡ out₃)) (λ d. fsplit ! $ drop ! $ fsplit ! $ drop ! $ fsplit ! $ fsplit ! $ move ! (1 ∷ []) $ feqL ! (λ l.
           move ! (2 ∷ []) $ split ! $ move ! (1 ∷ []) $ peeks ! usize (Is usize) (shows 𝓤 H A usize) m (w ∷ []) (λ is. land ! (from ! (stop !)) (store ! 18 refl (uint-lawful 𝓤 H A W w64 .typed m _ is .0)) $
           move ! (1 ∷ []) $ split ! $ move ! (1 ∷ []) $ split ! $ lft-end ! tt $ move ! (0 ∷ 6 ∷ 4 ∷ []) $
           use3 W (later (‵ (OwnOut (zs .1 .1 .0) (length out₂)) ⊛ ‵ (flft κ₃ q₃))) (comes-back u8 κ₃ (ν ∷ []) q₃ γ b o 𝓤 H A W (named 2) (named 1) out₂ δ (zs .1 .1 .0) here l) $ await ! tt $ split ! $
@@ -309,11 +312,14 @@ module _ {M : Type 1} (𝓤 : URA M) (H : Heap 𝓤) (A : Atoms 𝓤) (W : Given
           rewrite ! 0 (λ (z : List ℕ). ‵ (OwnOut z (length out₂))) (d .1) refl $ rewrite ! 0 (λ (k : ℕ). ‵ (OwnOut out₃ k)) (sym l ∙ ap length (d .1)) refl $ rewrite ! 29 (λ (k : ℕ). ‵ (fat fullShare slice₄ l₄ 0 (s k))) (sym l ∙ ap length (d .1)) refl $
           forget ! 7 refl $ forget ! 9 refl $ forget ! 19 refl $ keep ! (6 ∷ 3 ∷ 0 ∷ 1 ∷ 7 ∷ 8 ∷ 9 ∷ 10 ∷ 11 ∷ 12 ∷ 13 ∷ 14 ∷ 15 ∷ 16 ∷ 17 ∷ 18 ∷ 19 ∷ 20 ∷ 21 ∷ 22 ∷ 23 ∷ 24 ∷ 25 ∷ 26 ∷ 27 ∷ 28 ∷ 29 ∷ 30 ∷ 31 ∷ 32 ∷ 33 ∷ 34 ∷ 35 ∷ 36 ∷ 37 ∷ 38 ∷ []) $ answered (sym (ap length (d .1)) ∙ (l ∙ len))))))))))
         where
+          to : ℕ
+          to = at₂
+
           here : Room u8 (length out₂)
           here = subst (Room u8) (sym len) room
 
-          within : at₂ + length (chunks true) ≤ length out₂
-          within = subst (λ (k : ℕ). at₂ + length (chunks true) ≤ k) (sym len) (fits .cntts)
+          within : to + length (chunks true) ≤ length out₂
+          within = subst (λ (k : ℕ). to + length (chunks true) ≤ k) (sym len) (fits .cntts)
 
       -- the Ctabs
       ctabs : length out₁ ≡ length out → Sq W (‵ OwnTab ∷ ‵ (flft κ₁ q₁) ∷ ‵ (flft κ₂ q₂) ∷ ‵ (OwnOut out₁ (length out₁)) ∷ ‵ (flft κ₃ q₃)
@@ -330,8 +336,8 @@ module _ {M : Type 1} (𝓤 : URA M) (H : Heap 𝓤) (A : Atoms 𝓤) (W : Given
           -- [what `put_chunks` asks; what is left of the output; what the table owns; the text's token; _15; …]
           calls-at ! fm (Put 𝓤 H A mem run) known-put (to-put ν δ out₁ at₁ false)
           (and-then ! (load ! (from ! (stop !)) (look ! 30 refl)) (and-then ! (load ! (from ! (stop !)) (look ! 20 refl)) (and-then ! (load ! (from ! (stop !)) (look ! 8 refl)) (and-then ! (load ! (from ! (stop !)) (look ! 22 refl)) (and-then ! (false-lit !) (no-more !)))))) (λ w.
-          use1 W (later (some (λ (m : ℕ). ((‵ (flft κ₂ q₂) ⊛ ‵ (flft (ν ∷ []) fullShare) ⊛ ‵ ftrue) ⊛ ‵ (usize .own m (w ∷ []))) ⊛ raw (ensured 𝓤 H A put.ended (put.clauses 𝓤 H A mem run) (κ₂, (ν ∷ [], tt)) (table, (pl .records, (x δ out₁, (at₁, (false, tt))))) tt m)))) (id⊢ 𝓤 _) $ await ! tt $ pick ! (λ m.
-          split ! $ move ! (1 ∷ []) $ use1 W (some (λ (zs : Unit {0} × (Unit {0} × (List ℕ × (Unit {0} × (Unit {0} × Unit {0}))))). ‵ (lasts put.ended (κ₂, (ν ∷ [], tt)) (table, (pl .records, (x δ out₁, (at₁, (false, tt))))) zs) ⊛ raw (fact 𝓤 ((m ≡ at₂) × (zs .1 .1 .0 ≡ out₂))))) (id⊢ 𝓤 _) $ pick ! (λ zs.
+          use1 W (later (some (λ (m : ℕ). ((‵ (flft κ₂ q₂) ⊛ ‵ (flft (ν ∷ []) fullShare) ⊛ ‵ ftrue) ⊛ ‵ (usize .own m (w ∷ []))) ⊛ raw (ensured 𝓤 H A put.ended (put.clauses 𝓤 H A mem run) (κ₂, (ν ∷ [], tt)) (table, (n, (x δ out₁, (at₁, (false, tt))))) tt m)))) (id⊢ 𝓤 _) $ await ! tt $ pick ! (λ m.
+          split ! $ move ! (1 ∷ []) $ use1 W (some (λ (zs : Unit {0} × (Unit {0} × (List ℕ × (Unit {0} × (Unit {0} × Unit {0}))))). ‵ (lasts put.ended (κ₂, (ν ∷ [], tt)) (table, (n, (x δ out₁, (at₁, (false, tt))))) zs) ⊛ raw (fact 𝓤 ((m ≡ at₂) × (zs .1 .1 .0 ≡ out₂))))) (id⊢ 𝓤 _) $ pick ! (λ zs.
           split ! $ move ! (1 ∷ []) $ heard ! ((m ≡ at₂) × (zs .1 .1 .0 ≡ out₂)) (λ d. fsplit ! $ drop ! $ fsplit ! $ drop ! $ fsplit ! $ fsplit ! $ move ! (1 ∷ []) $ feqL ! (λ l.
           move ! (2 ∷ []) $ split ! $ move ! (1 ∷ []) $ peeks ! usize (Is usize) (shows 𝓤 H A usize) m (w ∷ []) (λ is. land ! (from ! (stop !)) (init ! 21 refl (uint-lawful 𝓤 H A W w64 .typed m _ is .0)) $
           rewrite ! 21 (λ (u : Val). ‵ (fat fullShare word l₈ 0 u)) (ap only (is .0)) refl $ rewrite ! 21 (λ (k : ℕ). ‵ (fat fullShare word l₈ 0 (vint w64 k))) (d .0) refl $

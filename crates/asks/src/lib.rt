@@ -1,0 +1,82 @@
+// The verbs of the bench `calls` that ask: who plays, what a voice is called, and where a note goes. Each takes the tokens behind the
+// verb, which ends at `at`, makes one call of the library and prints the answer.
+ghost use Rattle.script.specs.Printing.{Waits};
+use casm::questions::place_note;
+use casm::questions::who_plays;
+use layout::record::SourceChannel;
+use records::record_at;
+use records::record_end;
+use script::print::OUT;
+use script::print::put_bad;
+use tells::put_placed;
+use tells::put_played;
+use tells::put_voice;
+use tokens::Pair;
+use tokens::ROOM;
+use tokens::Tail;
+use tokens::Taken;
+use tokens::first;
+use tokens::take_bytes;
+use tokens::take_pair;
+use tokens::take_tail;
+
+// `plays BYTES NAME ROOT TYPE`
+pub fn plays(
+    line: &[u8],
+    at: usize,
+    room: &mut [u8; ROOM],
+    name: &mut [u8; ROOM],
+    out: &mut [u8; OUT],
+    used: usize,
+) -> usize
+    requires { ⌜ Waits used ⌝ }
+    ensures { λ r. ⌜ Waits r ⌝ }
+{
+    let Taken::Bytes(count, end) = take_bytes(line, at, room) else {
+        return put_bad(out, used);
+    };
+    let Taken::Bytes(length, named) = take_bytes(line, end, name) else {
+        return put_bad(out, used);
+    };
+    let Pair::Are(root, kind) = take_pair(line, named) else {
+        return put_bad(out, used);
+    };
+    let played = who_plays(first(room, count), first(name, length), root, kind);
+    put_played(out, used, played)
+}
+
+// `voice BYTES G CHANNEL`
+pub fn voice(
+    line: &[u8],
+    at: usize,
+    room: &mut [u8; ROOM],
+    out: &mut [u8; OUT],
+    used: usize,
+) -> usize
+    requires { ⌜ Waits used ⌝ }
+    ensures { λ r. ⌜ Waits r ⌝ }
+{
+    let Taken::Bytes(count, end) = take_bytes(line, at, room) else {
+        return put_bad(out, used);
+    };
+    let Tail::Is(group, channel) = take_tail(line, end) else {
+        return put_bad(out, used);
+    };
+    put_voice(out, used, first(room, count), group, SourceChannel(channel))
+}
+
+// `place REC ROOT NOTE`
+pub fn place(line: &[u8], at: usize, out: &mut [u8; OUT], used: usize) -> usize
+    requires { ⌜ Waits used ⌝ }
+    ensures { λ r. ⌜ Waits r ⌝ }
+{
+    let end = record_end(line, at);
+    if end == 0 {
+        return put_bad(out, used);
+    }
+    let Pair::Are(root, note) = take_pair(line, end) else {
+        return put_bad(out, used);
+    };
+    let placed = place_note(record_at(line, at), root, note);
+    put_placed(out, used, placed)
+}

@@ -1,0 +1,79 @@
+// The lent list of the salvage call, three numbers an entry (place, length, kind), and printing it: for the programs `list` and `calls`.
+ghost use Prim.Native.Nat.{_≤_, _<_};
+ghost use Rattle.script.specs.Printing.{Waits};
+use script::print::OUT;
+use script::print::put;
+use script::print::put_digits;
+
+// Three numbers for each of 8,192 entries, enough for any body.
+pub const LIST: usize = 24576;
+
+pub fn list() -> [usize; LIST] {
+    [0; LIST]
+}
+
+// The first n numbers are made 7, so that what a call leaves alone can be seen.
+pub fn blank(list: &mut [usize; LIST], n: usize)
+    requires { ⌜ n ≤ 24576 ⌝ }
+{
+    let mut k: usize = 0;
+    while k < n {
+        list[k] = 7;
+        k += 1;
+    }
+}
+
+// Whether the numbers from `from` up to n still are 7.
+pub fn is_kept(list: &[usize; LIST], from: usize, n: usize) -> bool
+    requires { ⌜ n ≤ 24576 ⌝ }
+{
+    let mut k: usize = from;
+    while k < n {
+        if list[k] != 7 {
+            return false;
+        }
+        k += 1;
+    }
+    true
+}
+
+// Number k of the list. Before an entry's first number stands `start`, before the others `between`.
+fn put_field(
+    out: &mut [u8; OUT],
+    used: usize,
+    list: &[usize; LIST],
+    k: usize,
+    start: u8,
+    between: u8,
+) -> usize
+    requires { ⌜ (Waits used) × (k < 24576) ⌝ }
+    ensures { λ r. ⌜ Waits r ⌝ }
+{
+    if k % 3 == 0 {
+        let started = put(out, used, start);
+        return put_digits(out, started, list[k]);
+    }
+    let parted = put(out, used, between);
+    put_digits(out, parted, list[k])
+}
+
+// The first `count` entries.
+pub fn put_entries(
+    out: &mut [u8; OUT],
+    used: usize,
+    list: &[usize; LIST],
+    count: usize,
+    start: u8,
+    between: u8,
+) -> usize
+    requires { ⌜ Waits used ⌝ }
+    ensures { λ r. ⌜ Waits r ⌝ }
+{
+    let mut after = used;
+    let mut k: usize = 0;
+    while k < LIST && k / 3 < count {
+        after = put_field(out, after, list, k, start, between);
+        k += 1;
+    }
+    after
+}

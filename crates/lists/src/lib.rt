@@ -1,0 +1,85 @@
+// The verb `salvage` of the bench `calls`: its tokens are taken, one call of the library is made on a lent list, and what came back is
+// printed, with whether the rest of the list was kept.
+ghost use Prim.Native.Nat.{_≤_};
+ghost use Rattle.script.specs.Printing.{Waits};
+use casm::list::list_salvage;
+use digits::Number;
+use entries::LIST;
+use entries::blank;
+use entries::is_kept;
+use entries::put_entries;
+use layout::answer::Counted;
+use script::print::OUT;
+use script::print::put_bad;
+use script::print::put_kept;
+use script::print::put_number;
+use script::print::put_ok;
+use script::print::put_refused;
+use tokens::ROOM;
+use tokens::Taken;
+use tokens::first;
+use tokens::take_bytes;
+use tokens::take_number;
+
+// The call, with the first n numbers of the list lent.
+fn list_into(body: &[u8], list: &mut [usize], n: usize) -> Counted {
+    if n <= list.len() {
+        return list_salvage(body, &mut list[0..n]);
+    }
+    list_salvage(body, list)
+}
+
+// What a call on the first `entries` entries of the list came back with.
+fn put_listed(
+    out: &mut [u8; OUT],
+    used: usize,
+    list: &[usize; LIST],
+    entries: usize,
+    listed: Counted,
+) -> usize
+    requires { ⌜ (Waits used) × (entries ≤ 8192) ⌝ }
+    ensures { λ r. ⌜ Waits r ⌝ }
+{
+    let lent = 3 * entries;
+    if listed.number != 0 {
+        let refused = put_refused(out, used, listed.number, listed.place);
+        return put_kept(out, refused, is_kept(list, 0, lent));
+    }
+    let accepted = put_ok(out, used);
+    let counted = put_number(out, accepted, listed.count);
+    let told = put_entries(out, counted, list, listed.count, b' ', b',');
+    if entries < listed.count {
+        return put_kept(out, told, false);
+    }
+    put_kept(out, told, is_kept(list, 3 * listed.count, lent))
+}
+
+// `salvage BYTES ROOM`
+pub fn salvage(
+    line: &[u8],
+    at: usize,
+    room: &mut [u8; ROOM],
+    list: &mut [usize; LIST],
+    out: &mut [u8; OUT],
+    used: usize,
+) -> usize
+    requires { ⌜ Waits used ⌝ }
+    ensures { λ r. ⌜ Waits r ⌝ }
+{
+    let Taken::Bytes(count, end) = take_bytes(line, at, room) else {
+        return put_bad(out, used);
+    };
+    let Number::Is(entries, last) = take_number(line, end) else {
+        return put_bad(out, used);
+    };
+    if last != line.len() {
+        return put_bad(out, used);
+    }
+    if 8192 < entries {
+        return put_bad(out, used);
+    }
+    let lending = 3 * entries;
+    blank(list, lending);
+    let listed = list_into(first(room, count), list, lending);
+    put_listed(out, used, list, entries, listed)
+}

@@ -1,0 +1,85 @@
+// What the questions of the bench `calls` were answered, printed: a refusal, or what was asked for.
+ghost use Rattle.script.specs.Printing.{Waits};
+use casm::questions::find_voice;
+use casm::questions::voice_name;
+use layout::answer::Placed;
+use layout::answer::Played;
+use layout::record::SourceChannel;
+use script::print::OUT;
+use script::print::put;
+use script::print::put_bytes;
+use script::print::put_end;
+use script::print::put_number;
+use script::print::put_ok;
+use script::print::put_one;
+use script::print::put_refusal;
+use script::print::put_text;
+
+// The first `count` channels.
+fn put_channels(
+    out: &mut [u8; OUT],
+    used: usize,
+    channels: [SourceChannel; 16],
+    count: usize,
+) -> usize
+    requires { ⌜ Waits used ⌝ }
+    ensures { λ r. ⌜ Waits r ⌝ }
+{
+    let mut after = used;
+    let mut i: usize = 0;
+    while i < 16 && i < count {
+        let channel = channels[i];
+        after = put_number(out, after, channel.0 as usize);
+        i += 1;
+    }
+    after
+}
+
+// The channels that play.
+pub fn put_played(out: &mut [u8; OUT], used: usize, played: Played) -> usize
+    requires { ⌜ Waits used ⌝ }
+    ensures { λ r. ⌜ Waits r ⌝ }
+{
+    if played.number != 0 {
+        return put_refusal(out, used, played.number, played.place);
+    }
+    let accepted = put_ok(out, used);
+    let channels = played.channels;
+    let told = put_channels(out, accepted, channels, played.count);
+    put_end(out, told)
+}
+
+// A voice name. Where it stands says whether it is refused.
+pub fn put_voice(
+    out: &mut [u8; OUT],
+    used: usize,
+    body: &[u8],
+    group: usize,
+    channel: SourceChannel,
+) -> usize
+    requires { ⌜ Waits used ⌝ }
+    ensures { λ r. ⌜ Waits r ⌝ }
+{
+    let found = find_voice(body, group, channel);
+    if found.number != 0 {
+        return put_refusal(out, used, found.number, found.place);
+    }
+    let accepted = put_ok(out, used);
+    let parted = put(out, accepted, b' ');
+    let told = put_bytes(out, parted, voice_name(body, group, channel));
+    put_end(out, told)
+}
+
+// The note, or silence.
+pub fn put_placed(out: &mut [u8; OUT], used: usize, placed: Placed) -> usize
+    requires { ⌜ Waits used ⌝ }
+    ensures { λ r. ⌜ Waits r ⌝ }
+{
+    if placed.number != 0 {
+        return put_refusal(out, used, placed.number, placed.place);
+    }
+    if placed.silent {
+        return put_text(out, used, b"silent\n");
+    }
+    put_one(out, used, placed.note as usize)
+}
