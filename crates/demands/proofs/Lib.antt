@@ -1,3 +1,5 @@
 pub mod Marked
 pub mod Salvage
 pub mod Rounds
+pub mod Refusals
+pub mod LentMemory

@@ -1,0 +1,9 @@
+pub mod Given
+pub mod Heads
+pub mod File
+pub mod Text
+pub mod Contents
+pub mod Body
+pub mod After
+pub mod Records
+pub mod Salvage
