@@ -1,6 +1,7 @@
 use mathlib.Core.Path.{_≡_, sym, _∙_, ap}
 use native.Mathlib.Omega.{arith}
 use lib.ListN.{length, length-set}
+use Rattle.layout.specs.declared.record.Record.{Record}
 use Rattle.screen.proofs.Setting.{bytes-length, set-over, set-out, set-in}
 use borrow.Author.Needs.{needs}
 use Rattle.screen.proofs.set_field.Statement.{statement}
@@ -34,7 +35,8 @@ returns-3 : tie.Need-returns-3
 returns-3 c =
     let a = c .before .before .before .before .before .before .args in
     let f = c .before .before .before in
-    cc (c .record-of .ensures, set-in (a .r) (a .index) (a .value) (omega arith) (c .before .before .bytes-of .result) (sym (f .before .is-out .ensures) ∙ f .if2 .left) (c .before .before .bytes-of .ensures))
+    ap (λ (held : Record). record { number = 0; place = 0; held = held }) (c .record-of .ensures)
+    ∙ sym (set-in (a .r) (a .index) (a .value) (omega arith) (c .before .before .bytes-of .result) (sym (f .before .is-out .ensures) ∙ f .if2 .left) (c .before .before .bytes-of .ensures))
 
 pub set-field-spec : {M : Type 1} → statement M
 set-field-spec =
