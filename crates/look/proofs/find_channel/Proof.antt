@@ -2,10 +2,10 @@
 use mathlib.Core.Path.{sym, _∙_}
 use native.Mathlib.Omega.{arith}
 use Rattle.body.proofs.AskLaws.{group-there-is, there-within}
-use Rattle.casm.proofs.ReadLaws.{channel-no, channel-refused, channel-missing, channel-none, channel-there}
+use Rattle.look.proofs.ReadLaws.{channel-no, channel-refused, channel-missing, channel-none, channel-there}
 use borrow.Author.Needs.{needs}
-use Rattle.casm.proofs.read.find_channel.Statement.{statement}
-use Rattle.casm.proofs.read.find_channel.Tie as tie
+use Rattle.look.proofs.find_channel.Statement.{statement}
+use Rattle.look.proofs.find_channel.Tie as tie
 
 find-group-requires : tie.Need-find-group-requires
 find-group-requires c κs = search needs

@@ -2,8 +2,8 @@
 use mathlib.Core.Path.{refl}
 use Rattle.layout.specs.Answers.{numberOf, placeOf, valueOr}
 use Rattle.layout.specs.Body.{channelled}
-use Rattle.casm.proofs.read.no_channel.Statement.{statement}
-use Rattle.casm.proofs.read.no_channel.Tie as tie
+use Rattle.look.proofs.no_channel.Statement.{statement}
+use Rattle.look.proofs.no_channel.Tie as tie
 
 returns : tie.Need-returns
 unfolding channelled numberOf placeOf valueOr

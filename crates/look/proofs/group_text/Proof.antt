@@ -2,10 +2,10 @@
 use mathlib.Core.Path.{sym, _∙_}
 use native.Mathlib.Omega.{arith}
 use Rattle.body.proofs.AskLaws.{group-there-is, there-within}
-use Rattle.casm.proofs.ReadLaws.{text-none, text-refused, text-missing, text-there}
+use Rattle.look.proofs.ReadLaws.{text-none, text-refused, text-missing, text-there}
 use borrow.Author.Needs.{needs}
-use Rattle.casm.proofs.read.group_text.Statement.{statement}
-use Rattle.casm.proofs.read.group_text.Tie as tie
+use Rattle.look.proofs.group_text.Statement.{statement}
+use Rattle.look.proofs.group_text.Tie as tie
 
 find-group-requires : tie.Need-find-group-requires
 find-group-requires c κs = search needs
