@@ -1,0 +1,198 @@
+/* The proved calls against plain C, in one program: first both are asked the same and must answer alike, then both are timed in turn, and each job's ratio is printed
+   (the median of the rounds; below 1 the proved call is the faster). Built and run by bench/run. */
+#include "plain.h"
+
+enum { ROUNDS = 31 };
+
+/* ---- inputs */
+
+static uint64_t seed = 2026;
+static uint32_t any(uint32_t below) { return (uint32_t)((seed = seed * 6364136223846793005u + 1442695040888963407u) >> 33) % below; }
+
+static uint8_t *put(uint8_t *at, const char *tag, size_t size)
+{
+    memcpy(at, tag, 4), at[4] = (uint8_t)(size >> 24), at[5] = (uint8_t)(size >> 16), at[6] = (uint8_t)(size >> 8), at[7] = (uint8_t)size;
+    return at + 8;
+}
+
+/* Bytes 0-25 of a record of a channel: rare settings as often as common ones. */
+static void record(uint8_t *b, uint8_t channel)
+{
+    static const uint8_t high[26] = {15, 255, 255, 255, 255, 255, 255, 255, 255, 15, 1, 15, 255, 7, 255, 255, 255, 255, 11, 33, 1, 5, 11, 127, 127, 5};
+    for (int k = 0; k < 26; k++) b[k] = (uint8_t)any(high[k] + 1u);
+    b[0] = channel, b[9] = (uint8_t)(8 + any(8));
+    for (int k = 1; k < 9; k++) b[k] = (uint8_t)('A' + any(26));
+}
+
+/* A sound group of so many channels, each with a Cntt; its parts are named after its number. Its length is returned. */
+static size_t group(uint8_t *at, unsigned number, unsigned channels, unsigned names)
+{
+    uint8_t *end = at + 16;
+    for (unsigned i = 0; i < names; i++) end += sprintf((char *)end, "%sPart %c%c %u", i ? "," : "", 'A' + number / 10, '0' + number % 10, i);
+    put(at + 8, "Sdec", (size_t)(end - at - 16));
+    for (unsigned i = 0; i < channels; i++) end = put(end, "Ctab", 27), record(end, (uint8_t)i), end[26] = 0, end += 27;
+    for (unsigned i = 0; i < channels; i++) end = put(end, "Cntt", 2), end[0] = (uint8_t)i, end[1] = 0x81, end += 2;
+    put(at, "CSEG", (size_t)(end - at - 8));
+    return (size_t)(end - at);
+}
+
+static uint8_t sound[32768], damaged[32768], small[32768], csegs[32768], none[32768], edited[2][32768];
+static size_t sound_size, small_size;
+static uint8_t few[1048576], many[1048576];
+static size_t list[2][24576];
+static uint8_t table[16 * 28], buffer[2][2048];
+static casm_row rows[4096];
+
+static size_t style(uint8_t *file, size_t sections, size_t filler)
+{
+    uint8_t *at = put(file, "MThd", 6) + 6;
+    at = put(at, "MTrk", 4) + 4;
+    for (size_t i = 0; i < sections; i++) {
+        char name[5] = {(char)(i >> 24 | 1), (char)(i >> 16), (char)(i >> 8), (char)i, 0};
+        at = put(at, name, i == 0 ? filler : 0) + (i == 0 ? filler : 0);
+    }
+    at = put(at, "CASM", 22);
+    memcpy(at, "CSEG\0\0\0\16Sdec\0\0\0\6Main A", 22);
+    return (size_t)(at + 22 - file);
+}
+
+static void prepare(void)
+{
+    for (unsigned k = 0; k < 32; k++) sound_size += group(sound + sound_size, k, 16, 4);
+    for (unsigned k = 0; k < 32; k++) small_size += group(small + small_size, k, 1, 10);
+    memcpy(damaged, sound, sizeof damaged);
+    for (size_t at = 0, k = 0, size; at < sound_size; at += size, k++) {
+        size = 8 + ((size_t)sound[at + 4] << 24 | (size_t)sound[at + 5] << 16 | (size_t)sound[at + 6] << 8 | sound[at + 7]);
+        if (k % 2) damaged[at + 7] ^= 1;
+    }
+    for (size_t i = 0; i < sizeof csegs; i++) csegs[i] = (uint8_t)"CSEG"[i % 4], none[i] = (uint8_t)any(256);
+    for (size_t i = 0; i + 3 < sizeof none; i++)
+        if (memcmp(none + i, "CSEG", 4) == 0) none[i] = 0;
+    for (int i = 0; i < 16; i++) record(table + 28 * i, (uint8_t)i), table[28 * i + 26] = (uint8_t)(i % 2), table[28 * i + 27] = i % 2 ? 0x84 : 0;
+    for (int i = 0; i < 4096; i++) record(rows[i].bytes, (uint8_t)(i % 16)), rows[i].bytes[20] = 0, rows[i].has = i % 2, rows[i].second = i % 2 ? 0x81 : 0;
+}
+
+/* ---- both sides of a job: one call each, its answer folded into a number that both must agree on */
+
+static uint64_t mix(uint64_t a, uint64_t b) { return (a ^ b) * 0x9E3779B97F4A7C15u; }
+static uint64_t lent(const void *at, size_t size)
+{
+    uint64_t h = 1;
+    for (size_t i = 0; i < size; i++) h = mix(h, ((const uint8_t *)at)[i]);
+    return h;
+}
+
+static const uint8_t *in;
+static size_t in_size;
+static int checking; /* lent memory is folded in only where answers are compared */
+
+#define FIND(call) { casm_section r = call(in, in_size); return mix(mix(mix(r.number, r.place), r.tag), r.length); }
+static uint64_t find_proved(void) FIND(casm_find)
+static uint64_t find_plain(void) FIND(plain_find)
+#define BODY(call) { casm_count r = call(in, in_size); return mix(mix(r.number, r.place), r.count); }
+static uint64_t body_proved(void) BODY(casm_body)
+static uint64_t body_plain(void) BODY(plain_body)
+#define SALVAGE(call, l) { casm_count r = call(in, in_size, l, 24576); return mix(mix(mix(r.number, r.place), r.count), checking ? lent(l, sizeof l) : 0); }
+static uint64_t salvage_proved(void) SALVAGE(casm_salvage, list[0])
+static uint64_t salvage_plain(void) SALVAGE(plain_salvage, list[1])
+#define PLAYS(call) { casm_players r = call(in, in_size, (const uint8_t *)"Part B5 3", 9, 7, 20); return mix(mix(mix(r.number, r.place), r.count), lent(r.channels, 16)); }
+static uint64_t plays_proved(void) PLAYS(casm_plays)
+static uint64_t plays_plain(void) PLAYS(plain_plays)
+#define PLACE(call) { uint64_t h = 0; for (unsigned i = 0; i < 4096; i++) { casm_note r = call(rows[i], (uint8_t)(i % 12), (uint8_t)(i % 128)); h = mix(h, mix(mix(r.number, r.place), (uint64_t)r.silent << 8 | r.note)); } return h; }
+static uint64_t place_proved(void) PLACE(casm_place)
+static uint64_t place_plain(void) PLACE(plain_place)
+#define WRITE(call, b) { casm_length r = call((const uint8_t *)"Main A,Main B", 13, table, sizeof table, 16, b, 2048); return mix(mix(mix(r.number, r.place), r.length), checking ? lent(b, 2048) : 0); }
+static uint64_t write_proved(void) WRITE(casm_write, buffer[0])
+static uint64_t write_plain(void) WRITE(plain_write, buffer[1])
+#define EDIT(call, b) { casm_answer r = call(b, in_size, 15, 7, rows[7]); return mix(mix(r.number, r.place), checking ? lent(b, in_size) : 0); }
+static uint64_t edit_proved(void) EDIT(casm_edit, edited[0])
+static uint64_t edit_plain(void) EDIT(plain_edit, edited[1])
+
+/* ---- alike, then timed */
+
+static void alike(const char *job, uint64_t (*proved)(void), uint64_t (*plain)(void))
+{
+    checking = 1;
+    uint64_t a = proved(), b = plain();
+    checking = 0;
+    if (a != b) printf("%s: the answers differ\n", job), exit(1);
+}
+
+/* The same call on damaged copies of its input. */
+static void alike_damaged(const char *job, const uint8_t *from, size_t size, uint64_t (*proved)(void), uint64_t (*plain)(void), int times)
+{
+    static uint8_t copy[1048576];
+    for (int i = 0; i < times; i++) {
+        memcpy(copy, from, size);
+        for (unsigned k = 0, n = any(4); k < n; k++) copy[any((uint32_t)size)] = (uint8_t)any(256);
+        in = copy, in_size = any(3) ? size : any((uint32_t)size + 1);
+        memcpy(edited[0], copy, in_size < 32768 ? in_size : 32768), memcpy(edited[1], copy, in_size < 32768 ? in_size : 32768);
+        alike(job, proved, plain);
+    }
+}
+
+static double now(void)
+{
+    struct timespec t;
+    clock_gettime(CLOCK_MONOTONIC, &t);
+    return (double)t.tv_sec + (double)t.tv_nsec * 1e-9;
+}
+
+static int by_size(const void *a, const void *b) { return *(const double *)a < *(const double *)b ? -1 : *(const double *)a > *(const double *)b; }
+
+static volatile uint64_t sink;
+static double timed(uint64_t (*call)(void), int calls)
+{
+    double start = now();
+    for (int i = 0; i < calls; i++) sink += call();
+    return (now() - start) / calls;
+}
+
+static void job(const char *name, uint64_t (*proved)(void), uint64_t (*plain)(void))
+{
+    double ratios[ROUNDS], times[ROUNDS];
+    int calls = 1;
+    alike(name, proved, plain);
+    while (timed(plain, calls) * calls < 0.004 && calls < 1000000) calls *= 2;
+    for (int i = 0; i < ROUNDS; i++) {
+        double a, b;
+        if (i % 2) a = timed(proved, calls), b = timed(plain, calls);
+        else b = timed(plain, calls), a = timed(proved, calls);
+        ratios[i] = a / b, times[i] = b;
+    }
+    qsort(ratios, ROUNDS, sizeof *ratios, by_size);
+    qsort(times, ROUNDS, sizeof *times, by_size);
+    printf("%-44s %5.2f   (quarters %.2f to %.2f; plain C %.2f us)\n", name, ratios[ROUNDS / 2], ratios[ROUNDS / 4], ratios[ROUNDS * 3 / 4], times[ROUNDS / 2] * 1e6);
+    fflush(NULL);
+}
+
+static void on(const uint8_t *from, size_t size) { in = from, in_size = size; }
+
+int main(int count, char **words)
+{
+    size_t few_size, many_size;
+    prepare();
+    few_size = style(few, 6, 1000000);
+    many_size = style(many, count > 1 ? (size_t)atol(words[1]) : 8000, 0);
+    alike_damaged("find", few, 4096, find_proved, find_plain, 2000);
+    alike_damaged("body", sound, sound_size, body_proved, body_plain, 4000);
+    alike_damaged("body, short texts", small, small_size, body_proved, body_plain, 4000);
+    alike_damaged("salvage", sound, sound_size, salvage_proved, salvage_plain, 300);
+    alike_damaged("plays", sound, sound_size, plays_proved, plays_plain, 2000);
+    alike_damaged("edit", sound, sound_size, edit_proved, edit_plain, 300);
+    printf("alike on damaged inputs; proved time over plain C time:\n");
+    on(few, few_size), job("find, 1 MB, few sections", find_proved, find_plain);
+    on(many, many_size), job("find, many sections", find_proved, find_plain);
+    on(sound, sound_size), job("strict body, 32 groups of 16 channels", body_proved, body_plain);
+    on(small, small_size), job("strict body, 32 groups, ten names each", body_proved, body_plain);
+    on(sound, sound_size), job("salvage, sound", salvage_proved, salvage_plain);
+    on(damaged, sound_size), job("salvage, every second group damaged", salvage_proved, salvage_plain);
+    on(csegs, sizeof csegs), job("salvage, 8,192 times CSEG", salvage_proved, salvage_plain);
+    on(none, sizeof none), job("salvage, 32 KiB with no CSEG", salvage_proved, salvage_plain);
+    on(sound, sound_size), job("who plays", plays_proved, plays_plain);
+    job("place, 4,096 notes", place_proved, place_plain);
+    job("write, 16 records", write_proved, write_plain);
+    memcpy(edited[0], sound, sizeof sound), memcpy(edited[1], sound, sizeof sound);
+    on(sound, sound_size), job("edit", edit_proved, edit_plain);
+    return 0;
+}

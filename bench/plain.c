@@ -1,0 +1,304 @@
+/* Plain C for the layout of document 01, written to be fast: the yardstick of bench.c. It follows the documents and not the proved code. */
+#include "plain.h"
+
+enum { BODY_LIMIT = 32768, FILE_LIMIT = 1048576, GROUPS = 32 };
+
+static const uint8_t low[27] = {[9] = 8};
+static const uint8_t high[27] = {15,  255, 255, 255, 255, 255, 255, 255, 255, 15, 1, 15, 255, 7,
+                                 255, 255, 255, 255, 11,  33,  1,   5,   11,  127, 127, 5, 0};
+
+static inline uint32_t word(const uint8_t *s) { return (uint32_t)s[0] << 24 | (uint32_t)s[1] << 16 | (uint32_t)s[2] << 8 | s[3]; }
+static inline uint32_t tag(const char *t) { return word((const uint8_t *)t); }
+
+/* ---- the CASM section of a file */
+
+casm_section plain_find(const uint8_t *file, size_t size)
+{
+    casm_section r = {0};
+    if (size > FILE_LIMIT) return r.number = 3, r;
+    if (size < 22 || word(file) != tag("MThd") || word(file + 4) != 6 || word(file + 14) != tag("MTrk") || word(file + 18) > size - 22)
+        return r.number = 1, r;
+    size_t first = 22 + word(file + 18), casm = 0, length = 0;
+    for (size_t at = first; at != size;) {
+        if (size - at < 8 || word(file + at + 4) > size - at - 8) return r.number = 2, r.place = at, r;
+        uint32_t name = word(file + at);
+        for (size_t i = first; i != at; i += 8 + word(file + i + 4))
+            if (word(file + i) == name) return r.number = 4, r.place = at, r;
+        if (name == tag("CASM")) casm = at, length = word(file + at + 4);
+        at += 8 + word(file + at + 4);
+    }
+    if (casm == 0) return r.number = 5, r.place = size, r;
+    if (length > BODY_LIMIT) return r.number = 3, r.place = casm, r;
+    return r.tag = casm, r.length = length, r;
+}
+
+/* ---- one group: p has n bytes */
+
+struct group { size_t size, text, length, ctabs, records, cntts, seconds; };
+struct fault { uint8_t number; size_t place; };
+static const struct fault fine = {0, 0};
+#define FAULT(n, p) ((struct fault){(n), (p)})
+
+static _Bool sound_text(const uint8_t *t, size_t n)
+{
+    uint8_t ends[128];
+    size_t names = 0, from = 0;
+    if (n == 0 || n > 255) return 0;
+    for (size_t i = 0; i <= n; i++) {
+        if (i < n && (t[i] < 0x20 || t[i] > 0x7E)) return 0;
+        if (i < n && t[i] != ',') continue;
+        size_t size = i - from;
+        if (size == 0 || size > 16) return 0;
+        for (size_t k = 0, start = 0; k < names; start = ends[k] + 1, k++)
+            if (ends[k] - start == size && memcmp(t + start, t + from, size) == 0) return 0;
+        ends[names++] = (uint8_t)i;
+        from = i + 1;
+    }
+    return 1;
+}
+
+static size_t first_out(const uint8_t *b, size_t n)
+{
+    for (size_t k = 0; k < n; k++)
+        if (b[k] < low[k] || b[k] > high[k]) return k;
+    return n;
+}
+
+static _Bool cntt_value(uint8_t v) { return v == 4 || (v >= 6 && v <= 10) || (v >= 0x80 && v <= 0x8A); }
+
+static struct fault read_group(const uint8_t *p, size_t n, struct group *g)
+{
+    if (n < 8) return FAULT(2, 0);
+    if (word(p) != tag("CSEG")) return FAULT(6, 0);
+    size_t size = word(p + 4);
+    if (size > n - 8) return FAULT(2, 0);
+    if (size == 0) return FAULT(6, 0);
+    n = 8 + size;
+    if (n < 16) return FAULT(2, 8);
+    if (word(p + 8) != tag("Sdec")) return FAULT(6, 8);
+    size_t text = word(p + 12);
+    if (text > n - 16) return FAULT(2, 8);
+    if (!sound_text(p + 16, text)) return FAULT(8, 8);
+    size_t at = 16 + text;
+    uint8_t home[16] = {0}, seen[16] = {0}, last = 0;
+    size_t records = 0, seconds = 0;
+    g->ctabs = at;
+    for (; at != n; at += 35) {
+        if (n - at >= 8 && word(p + at) == tag("Cntt")) break;
+        if (n - at < 8) return FAULT(2, at);
+        if (word(p + at) != tag("Ctab")) return FAULT(6, at);
+        if (word(p + at + 4) > n - at - 8) return FAULT(2, at);
+        if (word(p + at + 4) != 27) return FAULT(7, at);
+        size_t k = first_out(p + at + 8, 27);
+        if (k < 27) return FAULT(9, at + 8 + k);
+        if (home[p[at + 8]]) return FAULT(10, at);
+        home[p[at + 8]] = (uint8_t)++records;
+    }
+    g->cntts = at;
+    for (; at != n; at += 10) {
+        if (n - at < 8) return FAULT(2, at);
+        if (word(p + at) != tag("Cntt")) return FAULT(6, at);
+        if (word(p + at + 4) > n - at - 8) return FAULT(2, at);
+        if (word(p + at + 4) != 2) return FAULT(7, at);
+        uint8_t channel = p[at + 8];
+        if (channel > 15) return FAULT(9, at + 8);
+        if (!cntt_value(p[at + 9])) return FAULT(9, at + 9);
+        if (seen[channel]) return FAULT(10, at);
+        if (home[channel] == 0 || home[channel] < last) return FAULT(11, at);
+        seen[channel] = 1, last = home[channel], seconds++;
+    }
+    g->size = n, g->text = 16, g->length = text, g->records = records, g->seconds = seconds;
+    return fine;
+}
+
+/* ---- a body */
+
+struct names { const uint8_t *text; size_t length; };
+
+static _Bool has_name(const uint8_t *t, size_t n, const uint8_t *name, size_t size)
+{
+    for (size_t i = 0, from = 0; i <= n; i++)
+        if (i == n || t[i] == ',') {
+            if (i - from == size && memcmp(t + from, name, size) == 0) return 1;
+            from = i + 1;
+        }
+    return 0;
+}
+
+static _Bool shares(const uint8_t *t, size_t n, const uint8_t *u, size_t m)
+{
+    for (size_t i = 0, from = 0; i <= m; i++)
+        if (i == m || u[i] == ',') {
+            if (has_name(t, n, u + from, i - from)) return 1;
+            from = i + 1;
+        }
+    return 0;
+}
+
+static struct fault read_groups(const uint8_t *s, size_t size, struct group *groups, size_t *places, size_t *count)
+{
+    size_t k = 0;
+    if (size > BODY_LIMIT) return FAULT(3, 0);
+    for (size_t at = 0; at != size; k++) {
+        if (k == GROUPS) {
+            if (size - at < 8) return FAULT(2, at);
+            if (word(s + at) != tag("CSEG")) return FAULT(6, at);
+            if (word(s + at + 4) > size - at - 8) return FAULT(2, at);
+            return FAULT(12, at);
+        }
+        struct fault f = read_group(s + at, size - at, &groups[k]);
+        if (f.number) return f.place += at, f;
+        for (size_t j = 0; j < k; j++)
+            if (shares(s + places[j] + 16, groups[j].length, s + at + 16, groups[k].length)) return FAULT(13, at);
+        places[k] = at;
+        at += groups[k].size;
+    }
+    return *count = k, fine;
+}
+
+casm_count plain_body(const uint8_t *body, size_t size)
+{
+    struct group groups[GROUPS];
+    size_t places[GROUPS], count = 0;
+    struct fault f = read_groups(body, size, groups, places, &count);
+    return (casm_count){f.number, f.place, f.number ? 0 : count};
+}
+
+/* ---- the salvage list */
+
+static size_t next_cseg(const uint8_t *s, size_t size, size_t at)
+{
+    if (size < 4) return size;
+    for (size_t end = size - 3; at < end; at++)
+        if (s[at] == 'C' && s[at + 1] == 'S' && s[at + 2] == 'E' && s[at + 3] == 'G') return at;
+    return size;
+}
+
+static size_t entries(const uint8_t *s, size_t size, size_t *list, size_t room)
+{
+    size_t n = 0, at = 0;
+#define ENTRY(p, l, k) do { if (n < room) list[3 * n] = (p), list[3 * n + 1] = (l), list[3 * n + 2] = (k); n++; } while (0)
+    size_t first = next_cseg(s, size, 0);
+    if (first) ENTRY(0, first, 6);
+    for (at = first; at != size;) {
+        size_t end = next_cseg(s, size, at + 4);
+        struct group g;
+        struct fault f = read_group(s + at, end - at, &g);
+        if (f.number) ENTRY(at, end - at, f.number);
+        else {
+            ENTRY(at, g.size, 0);
+            if (at + g.size != end) ENTRY(at + g.size, end - at - g.size, 6);
+        }
+        at = end;
+    }
+    return n;
+}
+
+casm_count plain_salvage(const uint8_t *body, size_t size, size_t *list, size_t numbers)
+{
+    casm_count r = {0};
+    size_t room = numbers / 3;
+    if (size > BODY_LIMIT) return r.number = 3, r;
+    if (size / 4 >= room && entries(body, size, NULL, 0) > room) return r.number = 14, r;
+    return r.count = entries(body, size, list, room), r;
+}
+
+/* ---- questions */
+
+casm_players plain_plays(const uint8_t *body, size_t size, const uint8_t *part, size_t length, uint8_t root, uint8_t kind)
+{
+    casm_players r = {0};
+    struct group groups[GROUPS];
+    size_t places[GROUPS], count = 0, k = 0;
+    struct fault f = read_groups(body, size, groups, places, &count);
+    if (f.number) return r.number = f.number, r.place = f.place, r;
+    if (root > 11 || kind > 33) return r.number = 16, r;
+    while (k < count && !has_name(body + places[k] + 16, groups[k].length, part, length)) k++;
+    if (k == count) return r.number = 15, r;
+    const uint8_t *b = body + places[k] + groups[k].ctabs + 8;
+    for (size_t i = 0; i < groups[k].records; i++, b += 35) {
+        uint32_t roots = (uint32_t)b[11] << 8 | b[12];
+        uint64_t chords = (uint64_t)b[13] << 32 | word(b + 14);
+        if (roots >> root & 1 && chords >> kind & 1) r.channels[r.count++] = b[0];
+    }
+    return r;
+}
+
+casm_note plain_place(casm_row row, uint8_t root, uint8_t note)
+{
+    static const uint8_t becomes[6] = {0x00, 0x01, 0x02, 0x81, 0x03, 0x05};
+    casm_note r = {0};
+    const uint8_t *b = row.bytes;
+    if (root > 11 || note > 127) return r.number = 16, r;
+    size_t k = first_out(b, 26);
+    if (k > 21 && row.has && !cntt_value(row.second)) k = 21;
+    if (k < 26) return r.number = 9, r.place = k, r;
+    uint8_t table = row.has ? row.second : becomes[b[21]];
+    int value = note;
+    if (table != 0x00 && table != 0x80) {
+        if (b[20]) return r.number = 17, r;
+        value += root - b[18] - (root > b[22] ? 12 : 0);
+    }
+    if (value < b[23]) value += (b[23] - value + 11) / 12 * 12;
+    else if (value > b[24]) value -= (value - b[24] + 11) / 12 * 12;
+    if (value < b[23] || value > b[24]) return r.silent = 1, r;
+    return r.note = (uint8_t)value, r;
+}
+
+/* ---- writing and editing */
+
+static uint8_t *put_head(uint8_t *out, const char *name, size_t size)
+{
+    memcpy(out, name, 4);
+    out[4] = (uint8_t)(size >> 24), out[5] = (uint8_t)(size >> 16), out[6] = (uint8_t)(size >> 8), out[7] = (uint8_t)size;
+    return out + 8;
+}
+
+casm_length plain_write(const uint8_t *text, size_t length, const uint8_t *table, size_t bytes, size_t count, uint8_t *out, size_t room)
+{
+    casm_length r = {0};
+    uint8_t seen[16] = {0};
+    size_t lent = bytes / 28 < 32 ? bytes / 28 : 32, size = 16 + length;
+    if (count > lent) return r.number = 16, r;
+    if (!sound_text(text, length)) return r.number = 8, r;
+    for (size_t i = 0; i < count; i++) {
+        const uint8_t *b = table + 28 * i;
+        size_t k = first_out(b, 26);
+        if (k > 21 && b[26] && !cntt_value(b[27])) k = 21;
+        if (k < 26) return r.number = 9, r.place = 27 * i + k, r;
+        if (seen[b[0]]) return r.number = 10, r.place = 27 * i, r;
+        seen[b[0]] = 1, size += b[26] ? 45 : 35;
+    }
+    if (size > room) return r.number = 14, r;
+    out = put_head(out, "CSEG", size - 8);
+    out = put_head(out, "Sdec", length);
+    memcpy(out, text, length), out += length;
+    for (size_t i = 0; i < count; i++, out += 27) {
+        out = put_head(out, "Ctab", 27);
+        memcpy(out, table + 28 * i, 26), out[26] = 0;
+    }
+    for (size_t i = 0; i < count; i++)
+        if (table[28 * i + 26]) {
+            out = put_head(out, "Cntt", 2);
+            out[0] = table[28 * i], out[1] = table[28 * i + 27], out += 2;
+        }
+    return r.length = size, r;
+}
+
+casm_answer plain_edit(uint8_t *body, size_t size, size_t group, uint8_t source, casm_row row)
+{
+    casm_answer r = {0};
+    struct group groups[GROUPS];
+    size_t places[GROUPS], count = 0;
+    struct fault f = read_groups(body, size, groups, places, &count);
+    if (f.number) return r.number = f.number, r.place = f.place, r;
+    if (group >= count) return r.number = 16, r;
+    uint8_t *b = body + places[group] + groups[group].ctabs + 8, *end = b + 35 * groups[group].records;
+    while (b != end && *b != source) b += 35;
+    if (b == end) return r.number = 15, r;
+    if (row.bytes[0] != source) return r.number = 16, r;
+    size_t k = first_out(row.bytes, 26);
+    if (k < 26) return r.number = 9, r.place = k, r;
+    memcpy(b, row.bytes, 26), b[26] = 0;
+    return r;
+}

@@ -1,0 +1,3 @@
+pub mod Crossed
+pub mod Flats
+pub mod Laid

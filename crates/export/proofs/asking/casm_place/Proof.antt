@@ -1,0 +1,16 @@
+-- The face's answer for the record that the row stands for.
+use borrow.Author.Needs.{needs}
+use Rattle.export.proofs.asking.casm_place.Statement.{statement}
+use Rattle.export.proofs.asking.casm_place.Tie as tie
+
+record-of-requires : tie.Need-record-of-requires
+record-of-requires c κs = search needs
+
+place-note-requires : tie.Need-place-note-requires
+place-note-requires c κs = search needs
+
+returns : tie.Need-returns
+returns c = cc (c .place-note .ensures, c .before .record-of .ensures)
+
+pub casm-place-spec : {M : Type 1} → statement M
+casm-place-spec = tie.close (tie.spec record-of-requires place-note-requires returns)

@@ -1,0 +1,102 @@
+-- What crosses to C, as the answers of the layout: field by field the same.
+use Prim.Native.Nat.{ℕ}
+use mathlib.Core.Bool.{cond}
+use mathlib.Core.List.{map}
+use lib.Dec.{eqb}
+use Rattle.layout.specs.Records.{bytesOf, recordOf}
+use Rattle.layout.specs.declared.record.SourceChannel.{SourceChannel}
+use Rattle.layout.specs.declared.record.SecondTable.{SecondTable}
+use Rattle.layout.specs.declared.record.SecondTable.the-variants.{Absent, Value}
+use Rattle.layout.specs.declared.record.Record.{Record}
+use Rattle.layout.specs.declared.answer.Answered.{Answered}
+use Rattle.layout.specs.declared.answer.Counted.{Counted}
+use Rattle.layout.specs.declared.answer.Measured.{Measured}
+use Rattle.layout.specs.declared.answer.Located.{Located}
+use Rattle.layout.specs.declared.answer.Named.{Named}
+use Rattle.layout.specs.declared.answer.Standing.{Standing}
+use Rattle.layout.specs.declared.answer.Grouped.{Grouped}
+use Rattle.layout.specs.declared.answer.Spanned.{Spanned}
+use Rattle.layout.specs.declared.answer.Played.{Played}
+use Rattle.layout.specs.declared.answer.Placed.{Placed}
+use Rattle.layout.specs.declared.answer.Changed.{Changed}
+use Rattle.export.specs.declared.answer.Answer.{Answer}
+use Rattle.export.specs.declared.answer.Count.{Count}
+use Rattle.export.specs.declared.answer.Length.{Length}
+use Rattle.export.specs.declared.answer.Section.{Section}
+use Rattle.export.specs.declared.answer.Holder.{Holder}
+use Rattle.export.specs.declared.answer.Bounds.{Bounds}
+use Rattle.export.specs.declared.answer.Span.{Span}
+use Rattle.export.specs.declared.answer.Players.{Players}
+use Rattle.export.specs.declared.answer.Note.{Note}
+use Rattle.export.specs.declared.answer.Row.{Row}
+use Rattle.export.specs.declared.answer.Edited.{Edited}
+
+-- accepted or refused
+abbrev pub answered : Answer → Answered
+answered r = record { number = r .number; place = r .place }
+
+-- a count
+abbrev pub counted : Count → Counted
+counted r = record { number = r .number; place = r .place; count = r .count }
+
+-- the length of what was written
+abbrev pub measured : Length → Measured
+measured r = record { number = r .number; place = r .place; length = r .length }
+
+-- the CASM section of a style file
+abbrev pub located : Section → Located
+located r = record { number = r .number; place = r .place; tag = r .tag; length = r .length }
+
+-- the number of a group
+abbrev pub named : Holder → Named
+named r = record { number = r .number; place = r .place; group = r .group }
+
+-- where a group and its parts stand
+abbrev pub standing : Bounds → Standing
+standing r = record { at = r .at; size = r .size; text = r .text; length = r .length; ctabs = r .ctabs; records = r .records; cntts = r .cntts; seconds = r .seconds }
+
+-- one group
+abbrev pub grouped : Bounds → Grouped
+grouped r = record { number = r .number; place = r .place; group = standing r }
+
+-- a part of the lent bytes
+abbrev pub spanned : Span → Spanned
+spanned r = record { number = r .number; place = r .place; start = r .start; length = r .length }
+
+-- a source channel by its number
+abbrev pub channel : ℕ → SourceChannel
+channel n = record { 0 = n }
+
+-- the source channels that play
+abbrev pub played : Players → Played
+played r = record { number = r .number; place = r .place; count = r .count; channels = map channel (r .channels) }
+
+-- the note, or silence
+abbrev pub placed : Note → Placed
+placed r = record { number = r .number; place = r .place; silent = r .silent; note = r .note }
+
+-- the second table of a record: none where the first number is 0, whatever the other is
+unfoldable pub secondOf : ℕ → ℕ → SecondTable
+secondOf has second = cond (eqb has 0) Absent (Value second)
+
+-- the record that crosses
+abbrev pub recorded : Row → Record
+recorded r = recordOf (r .bytes) (secondOf (r .has) (r .second))
+
+-- whether a second table is there
+unfoldable pub hasOf : SecondTable → ℕ
+hasOf Absent = 0
+hasOf (Value v) = 1
+
+-- .. and its value
+unfoldable pub valueOf : SecondTable → ℕ
+valueOf Absent = 0
+valueOf (Value v) = v
+
+-- a record as it crosses back
+unfoldable pub rowOf : Record → Row
+rowOf r = record { bytes = bytesOf r; has = hasOf (r .second); second = valueOf (r .second) }
+
+-- a record after one field byte of it was set
+abbrev pub editOf : Changed → Edited
+editOf c = record { number = c .number; place = c .place; held = rowOf (c .held) }

@@ -1,0 +1,99 @@
+// What crosses to C by value: the answers of the layout field by field, laid out as C lays them out (include/casm.h).
+
+// Accepted or refused.
+#[repr(C)]
+pub struct Answer {
+    pub number: u8,
+    pub place: usize,
+}
+
+// How many groups, records or entries.
+#[repr(C)]
+pub struct Count {
+    pub number: u8,
+    pub place: usize,
+    pub count: usize,
+}
+
+// How many bytes were written.
+#[repr(C)]
+pub struct Length {
+    pub number: u8,
+    pub place: usize,
+    pub length: usize,
+}
+
+// The CASM section of a style file.
+#[repr(C)]
+pub struct Section {
+    pub number: u8,
+    pub place: usize,
+    pub tag: usize,
+    pub length: usize,
+}
+
+// The number of the group that has a part.
+#[repr(C)]
+pub struct Holder {
+    pub number: u8,
+    pub place: usize,
+    pub group: usize,
+}
+
+// Where a group and its parts stand in the body.
+#[repr(C)]
+pub struct Bounds {
+    pub number: u8,
+    pub place: usize,
+    pub at: usize,
+    pub size: usize,
+    pub text: usize,
+    pub length: usize,
+    pub ctabs: usize,
+    pub records: usize,
+    pub cntts: usize,
+    pub seconds: usize,
+}
+
+// A part of the lent bytes.
+#[repr(C)]
+pub struct Span {
+    pub number: u8,
+    pub place: usize,
+    pub start: usize,
+    pub length: usize,
+}
+
+// The source channels that play, in Ctab order; places past the count are 0.
+#[repr(C)]
+pub struct Players {
+    pub number: u8,
+    pub place: usize,
+    pub count: usize,
+    pub channels: [u8; 16],
+}
+
+// The note, or silence; under silence the note is 0.
+#[repr(C)]
+pub struct Note {
+    pub number: u8,
+    pub place: usize,
+    pub silent: bool,
+    pub note: u8,
+}
+
+// A channel record: bytes 0-25, whether it has a Cntt (0 for none), and the Cntt's value. 28 bytes, as in a flat table.
+#[repr(C)]
+pub struct Row {
+    pub bytes: [u8; 26],
+    pub has: u8,
+    pub second: u8,
+}
+
+// A record after one field byte of it was set; on refusal the record as it was.
+#[repr(C)]
+pub struct Edited {
+    pub number: u8,
+    pub place: usize,
+    pub held: Row,
+}

@@ -1,0 +1,43 @@
+// Whole groups through flat tables: written from one, and read into one (document 01, "Writing and editing").
+ghost use Rattle.layout.specs.Promises.{GroupWritten};
+ghost use Rattle.export.specs.Crossing.{measured, counted};
+ghost use Rattle.export.specs.Flat.{tableOf, RowsRead};
+use crate::answer::Count;
+use crate::answer::Length;
+use crate::flat::put_rows;
+use crate::flat::records_of;
+use crate::flat::row_count;
+use crate::flat::unused_table;
+
+// Writes one group at the start of a lent buffer, from its Sdec's text and the first `count` records of a flat table; answers its length.
+#[no_mangle]
+pub extern "C" fn casm_write(text: &[u8], flat: &[u8], count: usize, out: &mut [u8]) -> Length
+    ensures { λ r. ⌜ GroupWritten (now (text .entry)) (tableOf (now (flat .entry))) count (now (out .entry)) (measured r) (now (out .exit)) ⌝ }
+{
+    let n = row_count(flat.len());
+    let table = records_of(flat, n);
+    let x = bridge::write::write_with(text, table, n, count, out);
+    Length {
+        number: x.number,
+        place: x.place,
+        length: x.length,
+    }
+}
+
+// Fills a lent flat table with the records of a group, up to their count, and answers how many there are; later bytes are kept.
+#[no_mangle]
+pub extern "C" fn casm_records(body: &[u8], group: usize, flat: &mut [u8]) -> Count
+    ensures { λ r. ⌜ RowsRead (now (body .entry)) group (now (flat .entry)) (counted r) (now (flat .exit)) ⌝ }
+{
+    let n = row_count(flat.len());
+    let x = bridge::read_with_room(body, group, unused_table(), n);
+    let table = x.table;
+    let answer = x.answer;
+    let count = answer.count;
+    put_rows(table, count, flat);
+    Count {
+        number: answer.number,
+        place: answer.place,
+        count: count,
+    }
+}

@@ -1,0 +1,178 @@
+/* The CASM library for C, on x86-64 Linux: `rt staticlib export` proves it and writes target/staticlib/libexport.a.
+ *
+ * Every call takes every input: no number, length or content of what is lent is wrong, and what cannot be done is refused.
+ * An answer carries a number and a place. Number 0 accepts, at place 0. Any other number refuses, and then counts, lengths and
+ * every other field are 0, and lent memory is as it was. Places are counted from the start of the bytes that were lent.
+ *
+ *    1  not a style file                            10  a channel's second Ctab or Cntt
+ *    2  a chunk is cut off                          11  a Cntt without its Ctab, or out of order
+ *    3  a file or a body over its limit             12  more than 32 groups
+ *    4  a section tag seen before                   13  a part name seen in an earlier group
+ *    5  no CASM section                             14  what is lent is too small for the answer
+ *    6  a tag that may not stand there              15  no such part, or no such channel in the group
+ *    7  a Ctab not of 27 bytes, a Cntt not of 2     16  a number out of range
+ *    8  a rule on an Sdec's text is broken          17  root fixed, and the table is not bypass
+ *    9  a byte out of its range
+ *
+ * What a caller owes, since C checks none of it: a pointer and its length name memory that is there for the whole call, that nothing
+ * else writes meanwhile and, where it is lent to be written (no const), that overlaps nothing else that is lent to the same call.
+ * Where the length is 0 the pointer is not looked at: NULL will do. Elsewhere it may not be NULL.
+ * No call keeps a pointer, and none allocates memory, reads or writes files, or has a state of its own.
+ *
+ * `unsigned long` is size_t here and `unsigned char` uint8_t. The header needs no other header. */
+#ifndef CASM_H
+#define CASM_H
+
+#ifdef __cplusplus
+extern "C" {
+#endif
+
+/* Accepted or refused. */
+typedef struct {
+    unsigned char number;
+    unsigned long place;
+} casm_answer;
+
+/* How many groups, records or entries. */
+typedef struct {
+    unsigned char number;
+    unsigned long place;
+    unsigned long count;
+} casm_count;
+
+/* How many bytes were written. */
+typedef struct {
+    unsigned char number;
+    unsigned long place;
+    unsigned long length;
+} casm_length;
+
+/* The CASM section of a style file: the place of its tag and the length of its body, which stands 8 bytes behind the tag's place. */
+typedef struct {
+    unsigned char number;
+    unsigned long place;
+    unsigned long tag;
+    unsigned long length;
+} casm_section;
+
+/* The number of the group that has a part; groups are numbered from 0. */
+typedef struct {
+    unsigned char number;
+    unsigned long place;
+    unsigned long group;
+} casm_holder;
+
+/* Where a group stands in its body: the place of its tag and its size with the header; the place and length of its Sdec's text;
+ * the place of its first Ctab and how many it has; the place of its first Cntt and how many it has. */
+typedef struct {
+    unsigned char number;
+    unsigned long place;
+    unsigned long at;
+    unsigned long size;
+    unsigned long text;
+    unsigned long length;
+    unsigned long ctabs;
+    unsigned long records;
+    unsigned long cntts;
+    unsigned long seconds;
+} casm_bounds;
+
+/* A part of the lent bytes. */
+typedef struct {
+    unsigned char number;
+    unsigned long place;
+    unsigned long start;
+    unsigned long length;
+} casm_span;
+
+/* The source channels that play, in Ctab order; places past the count are 0. */
+typedef struct {
+    unsigned char number;
+    unsigned long place;
+    unsigned long count;
+    unsigned char channels[16];
+} casm_players;
+
+/* The note, or silence (1 or 0); under silence the note is 0. */
+typedef struct {
+    unsigned char number;
+    unsigned long place;
+    unsigned char silent;
+    unsigned char note;
+} casm_note;
+
+/* A channel record: bytes 0-25 of its Ctab; `has` is 0 where it has no Cntt, and anything else where `second` is the Cntt's value.
+ * It comes back with `has` 0 or 1, and `second` 0 where there is no Cntt. It is 28 bytes long: a table of them is a flat table. */
+typedef struct {
+    unsigned char bytes[26];
+    unsigned char has;
+    unsigned char second;
+} casm_row;
+
+/* A record after one field byte of it was set; on refusal the record as it was. */
+typedef struct {
+    unsigned char number;
+    unsigned long place;
+    casm_row held;
+} casm_edited;
+
+/* Finds the CASM section of a style file. No group is read. Where it is found, tag + 8 + length is at most file_length.
+ * Refusals: 3, 1; per section 2, 4; then 5, 3. */
+casm_section casm_find(const unsigned char *file, unsigned long file_length);
+
+/* Reads a body strictly: how many groups it has.
+ * Refusals: 3; per group 2, 6, 2, 12, then of what is in it 6, 2, 6, 2, 7, 8, 9, 10, 11, then 13. Below they are "the body's". */
+casm_count casm_body(const unsigned char *body, unsigned long body_length);
+
+/* The group that has a part of this name.
+ * Refusals: the body's; 15. */
+casm_holder casm_part(const unsigned char *body, unsigned long body_length, const unsigned char *part, unsigned long part_length);
+
+/* Where a group and its parts stand.
+ * Refusals: the body's; 16 where there is no such group. */
+casm_bounds casm_group(const unsigned char *body, unsigned long body_length, unsigned long group);
+
+/* Fills `list` with the salvage list of a body, sound or damaged: three numbers an entry (place, length, kind), numbers past the last
+ * entry kept. list_length counts numbers, not entries. 24,576 numbers are enough for any body.
+ * Refusals: 3; 14. */
+casm_count casm_salvage(const unsigned char *body, unsigned long body_length, unsigned long *list, unsigned long list_length);
+
+/* Who plays for a part under a chord root (0-11, C is 0) and a chord type (0-33).
+ * Refusals: the body's; 16 for root or type; 15. */
+casm_players casm_plays(
+    const unsigned char *body, unsigned long body_length, const unsigned char *part, unsigned long part_length, unsigned char root, unsigned char type);
+
+/* Where in the body the voice name of a group's source channel stands, its trailing spaces left off.
+ * Refusals: the body's; 16 where there is no such group; 15. */
+casm_span casm_voice(const unsigned char *body, unsigned long body_length, unsigned long group, unsigned char source);
+
+/* The note that a record gives for a note (0-127) under a chord root (0-11), or silence.
+ * Refusals: 16 for root or note; 9 for a byte of the record, at its place (a bad Cntt value counts as byte 21); 17. */
+casm_note casm_place(casm_row row, unsigned char root, unsigned char note);
+
+/* Replaces the record of a group and source channel inside a body: only that Ctab's 27 bytes change. A Cntt in `row` is neither read
+ * nor checked.
+ * Refusals: the body's; 16 where there is no such group; 15; 16 for another source channel in `row`; 9, at the byte of the record. */
+casm_answer casm_edit(unsigned char *body, unsigned long body_length, unsigned long group, unsigned char source, casm_row row);
+
+/* One byte (index 0-25) of a record set to a value, all others kept.
+ * Refusals: 16 for the index; 9 for the value, at the index. */
+casm_edited casm_field(casm_row row, unsigned long index, unsigned char value);
+
+/* Writes one group at the start of `out`, from its Sdec's text and the first `count` records of a flat table; later bytes are kept.
+ * flat_length counts bytes: the table is its first flat_length / 28 records, and of them the first 32 at most.
+ * Refusals: 16 where the count is above that; 8; per record 9, 10, at 27 times its number plus the byte; 14. */
+casm_length casm_write(
+    const unsigned char *text, unsigned long text_length, const unsigned char *flat, unsigned long flat_length, unsigned long count, unsigned char *out,
+    unsigned long out_length);
+
+/* Fills a flat table with the records of a group and answers how many there are; later bytes are kept. flat_length counts bytes: there
+ * is room for flat_length / 28 records, and 16 are enough for any group.
+ * Refusals: the body's; 16 where there is no such group; 14. */
+casm_count casm_records(const unsigned char *body, unsigned long body_length, unsigned long group, unsigned char *flat, unsigned long flat_length);
+
+#ifdef __cplusplus
+}
+#endif
+
+#endif
