@@ -13,5 +13,5 @@ pub fn write_group(text: &[u8], table: &[Record], count: usize, out: &mut [u8]) 
     let n = plan.records;
     let behind = lent::put_chunks(table, n, out, at, false);
     lent::put_chunks(table, n, out, behind, true);
-    write::check::measured(plan)
+    plan::measured(plan)
 }

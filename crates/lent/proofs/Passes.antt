@@ -8,7 +8,7 @@ use lib.ListN.{length, take, drop, length-append, length-drop, take-append-drop}
 use lib.Seq.{take-at, drop-append-add, drop-drop, length-take-le, take-add}
 use Rattle.layout.specs.declared.record.Record.{Record}
 use Rattle.layout.specs.Edit.{replaced}
-use Rattle.write.specs.Chunks.{chunkOf, chunksOf}
+use Rattle.plan.specs.Chunks.{chunkOf, chunksOf}
 
 -- ---- bytes in place of others
 

@@ -3,13 +3,13 @@ ghost use mathlib.Core.Path.{_≡_};
 ghost use Prim.Native.Nat.{_+_, _≤_};
 ghost use lib.ListN.{length, take};
 ghost use Rattle.layout.specs.Edit.{replaced};
-ghost use Rattle.write.specs.Checking.{planOf};
-ghost use Rattle.write.specs.Chunks.{chunksOf};
+ghost use Rattle.plan.specs.Checking.{planOf};
+ghost use Rattle.plan.specs.Chunks.{chunksOf};
 use layout::record::Record;
-use write::check::Plan;
-use write::check::begin;
-use write::check::look_at;
-use write::check::plan_for;
+use plan::Plan;
+use plan::begin;
+use plan::look_at;
+use plan::plan_for;
 use write::chunks::put_chunk;
 
 // What writing a text and the first records of a lent table comes to: each record is looked at once.

@@ -1,8 +1,4 @@
 pub mod Tails
 pub mod Stored
-pub mod Looking
-pub mod Length
-pub mod Passes
-pub mod Running
-pub mod Planning
+pub mod Starts
 pub mod Written

@@ -16,7 +16,7 @@ use Rattle.layout.proofs.Ctabs.{ctab-tag}
 use Rattle.layout.proofs.Groups.{sdec-tag, cseg-tag}
 use Rattle.layout.specs.Edit.{replaced}
 use Rattle.layout.specs.Write.{ctabBytes, cnttBytes}
-use Rattle.write.specs.Chunks.{chunkOf}
+use Rattle.plan.specs.Chunks.{chunkOf}
 use Rattle.write.proofs.Tails.{tail-written, tail-replaced}
 
 -- bytes 0-25, and 00 stored behind them

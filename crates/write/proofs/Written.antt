@@ -14,12 +14,12 @@ use Rattle.layout.specs.Answers.{refused, granted, numberOf, placeOf, valueOr, 
 use Rattle.layout.specs.Edit.{replaced}
 use Rattle.layout.specs.Write.{payloadBytes, groupBytes, groupFrom, written}
 use Rattle.layout.specs.Promises.{GroupWritten}
-use Rattle.write.specs.declared.check.Plan.{Plan}
-use Rattle.write.specs.Chunks.{chunkOf, chunksOf}
-use Rattle.write.specs.Checking.{noPlan, planOf, measuredBy, startPlace, startBytes}
-use Rattle.write.proofs.Passes.{replaced-on}
-use Rattle.write.proofs.Running.{sizes}
-use Rattle.write.proofs.Planning.{group-length, NotPlanned, Planned, plan-says}
+use Rattle.plan.specs.declared.Plan.{Plan}
+use Rattle.plan.specs.Chunks.{chunkOf, chunksOf}
+use Rattle.plan.specs.Checking.{noPlan, planOf, measuredBy, startPlace, startBytes}
+use Rattle.plan.proofs.Passes.{replaced-on}
+use Rattle.plan.proofs.Running.{sizes}
+use Rattle.plan.proofs.Planning.{group-length, NotPlanned, Planned, plan-says}
 
 -- what is so of every plan: each step has the room that it asks for
 pub record PlanFits (text : List ℕ) (rs : List Record) (room : ℕ) (p : Plan) : Type 0 where

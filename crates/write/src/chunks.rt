@@ -7,7 +7,7 @@ ghost use Rattle.layout.specs.Bytes.{CSEG, Sdec, four, chunk};
 ghost use Rattle.layout.specs.declared.record.SecondTable.the-variants.{Value};
 ghost use Rattle.layout.specs.Edit.{replaced};
 ghost use Rattle.layout.specs.Write.{ctabBytes, cnttBytes};
-ghost use Rattle.write.specs.Chunks.{chunkOf};
+ghost use Rattle.plan.specs.Chunks.{chunkOf};
 use crate::put::put_bytes;
 use crate::put::put_head;
 use crate::put::put_record;

@@ -1,5 +1,4 @@
 // Writing (document 01, "Writing and editing"): each chunk into the rest of what is left.
-pub mod check;
 pub mod chunks;
 pub mod put;
 pub mod start;

@@ -3,9 +3,9 @@ ghost use mathlib.Core.Path.{_≡_};
 ghost use Prim.Native.Nat.{_+_, _≤_};
 ghost use lib.ListN.{length};
 ghost use Rattle.layout.specs.Edit.{replaced};
-ghost use Rattle.write.specs.Checking.{startPlace, startBytes};
-use crate::check::Plan;
+ghost use Rattle.plan.specs.Checking.{startPlace, startBytes};
 use crate::chunks::put_front;
+use plan::Plan;
 
 // The group's header and its Sdec at the start of the buffer, and the place behind them. A plan that refuses writes nothing.
 pub fn put_start(out: &mut [u8], text: &[u8], p: Plan) -> usize

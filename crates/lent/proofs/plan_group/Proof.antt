@@ -50,28 +50,28 @@ use denote.Exit.{yes}
 use denote.Signature.{Slot, plain, shrSliceOf}
 use Rattle.layout.specs.declared.record.Record.{Record}
 use Rattle.layout.specs.Records.{blank}
-use Rattle.write.specs.declared.check.Checked.{Checked}
-use Rattle.write.specs.declared.check.Plan.{Plan}
-use Rattle.write.specs.Checking.{begun, looked, lookedAt, planned, planOf}
+use Rattle.plan.specs.declared.Checked.{Checked}
+use Rattle.plan.specs.declared.Plan.{Plan}
+use Rattle.plan.specs.Checking.{begun, looked, lookedAt, planned, planOf}
 use Rattle.layout.proofs.record.Record as T
 use Rattle.layout.proofs.record.Record.Laws as T′
-use Rattle.write.proofs.check.Checked as K
-use Rattle.write.proofs.check.Checked.Laws as K′
-use Rattle.write.proofs.check.Plan as P
-use Rattle.write.proofs.check.Plan.Laws as P′
-use Rattle.write.proofs.Length.{length-most, records-within}
-use Rattle.write.proofs.check.begin as begin
-use Rattle.write.proofs.check.begin.Symbol as begin-def
-use Rattle.write.proofs.check.begin.Symbol.{name as #write·begin}
-use Rattle.write.proofs.check.begin.Met as begin-thm
-use Rattle.write.proofs.check.look_at as look-at
-use Rattle.write.proofs.check.look_at.Symbol as look-at-def
-use Rattle.write.proofs.check.look_at.Symbol.{name as #write·look-at}
-use Rattle.write.proofs.check.look_at.Met as look-at-thm
-use Rattle.write.proofs.check.plan_for as plan-for
-use Rattle.write.proofs.check.plan_for.Symbol as plan-for-def
-use Rattle.write.proofs.check.plan_for.Symbol.{name as #write·plan-for}
-use Rattle.write.proofs.check.plan_for.Met as plan-for-thm
+use Rattle.plan.proofs.Checked as K
+use Rattle.plan.proofs.Checked.Laws as K′
+use Rattle.plan.proofs.Plan as P
+use Rattle.plan.proofs.Plan.Laws as P′
+use Rattle.plan.proofs.Length.{length-most, records-within}
+use Rattle.plan.proofs.begin as begin
+use Rattle.plan.proofs.begin.Symbol as begin-def
+use Rattle.plan.proofs.begin.Symbol.{name as #plan·begin}
+use Rattle.plan.proofs.begin.Met as begin-thm
+use Rattle.plan.proofs.look_at as look-at
+use Rattle.plan.proofs.look_at.Symbol as look-at-def
+use Rattle.plan.proofs.look_at.Symbol.{name as #plan·look-at}
+use Rattle.plan.proofs.look_at.Met as look-at-thm
+use Rattle.plan.proofs.plan_for as plan-for
+use Rattle.plan.proofs.plan_for.Symbol as plan-for-def
+use Rattle.plan.proofs.plan_for.Symbol.{name as #plan·plan-for}
+use Rattle.plan.proofs.plan_for.Met as plan-for-thm
 use Rattle.lent.proofs.plan_group.Key.{name as #lent·plan-group}
 use Rattle.lent.proofs.plan_group as group
 use Rattle.lent.proofs.plan_group.Statement as stated
@@ -221,7 +221,7 @@ module _ {M : Type 1} (𝓤 : URA M) (H : Heap 𝓤) (A : Atoms 𝓤) (W : Given
   said-plan : (x : Checked) (p : Plan) → ent 𝓤 (ensured 𝓤 H A plan-for.ended (plan-for.clauses 𝓤 H A mem run) tt (x, (space, tt)) tt p) (fact 𝓤 (p ≡ planned x space))
   said-plan x p = exE 𝓤 _ (λ ws. snd∗ 𝓤 (sem 𝓤 H A (lasts plan-for.ended tt (x, (space, tt)) ws)) (fact 𝓤 (p ≡ planned x space)))
 
-  module _ (𝓣 : Tables 𝓤 H) (known-begin : Triple 𝓤 (𝓣 .C #write·begin) (Begin 𝓤 H A mem run)) (known-look : Triple 𝓤 (𝓣 .C #write·look-at) (Look 𝓤 H A mem run)) (known-plan : Triple 𝓤 (𝓣 .C #write·plan-for) (Planning 𝓤 H A mem run)) (room : Room R (length rs)) where
+  module _ (𝓣 : Tables 𝓤 H) (known-begin : Triple 𝓤 (𝓣 .C #plan·begin) (Begin 𝓤 H A mem run)) (known-look : Triple 𝓤 (𝓣 .C #plan·look-at) (Look 𝓤 H A mem run)) (known-plan : Triple 𝓤 (𝓣 .C #plan·plan-for) (Planning 𝓤 H A mem run)) (room : Room R (length rs)) where
     abbrev C : Calls 𝓤 H
     C = 𝓣 .C
 
@@ -377,7 +377,7 @@ module _ {M : Type 1} (𝓤 : URA M) (H : Heap 𝓤) (A : Atoms 𝓤) (W : Given
         keep ! (8 ∷ 6 ∷ 0 ∷ 1 ∷ 10 ∷ 11 ∷ 12 ∷ 13 ∷ 14 ∷ 15 ∷ 16 ∷ 17 ∷ 18 ∷ 19 ∷ 20 ∷ 21 ∷ 22 ∷ 23 ∷ 24 ∷ 25 ∷ 26 ∷ 27 ∷ 28 ∷ 29 ∷ 30 ∷ 31 ∷ 32 ∷ 33 ∷ 34 ∷ 35 ∷ 36 ∷ 37 ∷ []) $
         looped q′ l₀ l₁ l₂ l₃ l₄ l₅ l₆ l₇ l₈ l₉ l₁₀ l₁₁ l₁₂ l₁₃)))))))))))))))))))
 
-module _ {M : Type 1} (𝓤 : URA M) (H : Heap 𝓤) (A : Atoms 𝓤) (W : Given 𝓤 H A) (mem : Memory → SProp 𝓤) (run : Routine → Fun 𝓤) (𝓣 : Tables 𝓤 H) (known-begin : Triple 𝓤 (𝓣 .C #write·begin) (Begin 𝓤 H A mem run)) (known-look : Triple 𝓤 (𝓣 .C #write·look-at) (Look 𝓤 H A mem run)) (known-plan : Triple 𝓤 (𝓣 .C #write·plan-for) (Planning 𝓤 H A mem run)) where
+module _ {M : Type 1} (𝓤 : URA M) (H : Heap 𝓤) (A : Atoms 𝓤) (W : Given 𝓤 H A) (mem : Memory → SProp 𝓤) (run : Routine → Fun 𝓤) (𝓣 : Tables 𝓤 H) (known-begin : Triple 𝓤 (𝓣 .C #plan·begin) (Begin 𝓤 H A mem run)) (known-look : Triple 𝓤 (𝓣 .C #plan·look-at) (Look 𝓤 H A mem run)) (known-plan : Triple 𝓤 (𝓣 .C #plan·plan-for) (Planning 𝓤 H A mem run)) where
   group-walks : Walks 𝓤 H A group.ended stayed (WpFn 𝓤 H (𝓣 .C) (𝓣 .Λ) code.function) (group.clauses 𝓤 H A mem run)
   group-walks = walked 𝓤 H A group.ended stayed (group.clauses 𝓤 H A mem run) (WpFn 𝓤 H (𝓣 .C) (𝓣 .Λ) code.function)
       (λ κs. (slice-vals, (slice-vals, (uint-vals w64, (uint-vals w64, tt))))) (λ κs. (shr-slice-tells (named 0) (κs .0) u8, (shr-slice-tells (named 1) (κs .1 .0) R, (uint-tells w64, (uint-tells w64, tt)))))
@@ -395,6 +395,6 @@ plan-group-spec 𝓤 H 𝓜 𝓖 𝓡 =
     entered 𝓤 H (tripleOf 𝓤 H (𝓖 .A) group.signature (group.spec 𝓤 H (𝓖 .A) (𝓜 .mem) (𝓡 .run)))
     (tables 𝓤 H 𝓜 𝓡 code.env .C) (tables 𝓤 H 𝓜 𝓡 code.env .Λ) #lent·plan-group code.function (code.unfolded 𝓤 H 𝓜 𝓡)
     (group-meets 𝓤 H (𝓖 .A) (givenOf 𝓤 H 𝓜 𝓖) (𝓜 .mem) (𝓡 .run) (tablesOf 𝓤 H 𝓜 (tables 𝓤 H 𝓜 𝓡 code.env))
-    (cited 𝓤 H (Begin 𝓤 H (𝓖 .A) (𝓜 .mem) (𝓡 .run)) 𝓜 𝓡 code.env #write·begin begin-def.routine code.calls-write·check·begin (begin-thm.met 𝓤 H 𝓜 𝓖 𝓡))
-    (cited 𝓤 H (Look 𝓤 H (𝓖 .A) (𝓜 .mem) (𝓡 .run)) 𝓜 𝓡 code.env #write·look-at look-at-def.routine code.calls-write·check·look-at (look-at-thm.met 𝓤 H 𝓜 𝓖 𝓡))
-    (cited 𝓤 H (Planning 𝓤 H (𝓖 .A) (𝓜 .mem) (𝓡 .run)) 𝓜 𝓡 code.env #write·plan-for plan-for-def.routine code.calls-write·check·plan-for (plan-for-thm.met 𝓤 H 𝓜 𝓖 𝓡)))
+    (cited 𝓤 H (Begin 𝓤 H (𝓖 .A) (𝓜 .mem) (𝓡 .run)) 𝓜 𝓡 code.env #plan·begin begin-def.routine code.calls-plan·begin (begin-thm.met 𝓤 H 𝓜 𝓖 𝓡))
+    (cited 𝓤 H (Look 𝓤 H (𝓖 .A) (𝓜 .mem) (𝓡 .run)) 𝓜 𝓡 code.env #plan·look-at look-at-def.routine code.calls-plan·look-at (look-at-thm.met 𝓤 H 𝓜 𝓖 𝓡))
+    (cited 𝓤 H (Planning 𝓤 H (𝓖 .A) (𝓜 .mem) (𝓡 .run)) 𝓜 𝓡 code.env #plan·plan-for plan-for-def.routine code.calls-plan·plan-for (plan-for-thm.met 𝓤 H 𝓜 𝓖 𝓡)))

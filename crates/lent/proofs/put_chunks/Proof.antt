@@ -53,11 +53,11 @@ use denote.Signature.{Slot, plain}
 use Rattle.layout.specs.declared.record.Record.{Record}
 use Rattle.layout.specs.Records.{blank}
 use Rattle.layout.specs.Edit.{replaced}
-use Rattle.write.specs.Chunks.{chunkOf, chunksOf}
+use Rattle.plan.specs.Chunks.{chunkOf, chunksOf}
 use Rattle.layout.proofs.record.Record as T
 use Rattle.layout.proofs.record.Record.Laws as T′
 use Rattle.lent.proofs.Again.{LentAgain, lends-again, comes-back}
-use Rattle.write.proofs.Passes.{chunks-next}
+use Rattle.plan.proofs.Passes.{chunks-next}
 use Rattle.lent.proofs.Passes.{replaced-none, replaced-length, replaced-twice, chunks-none, chunks-most}
 use Rattle.write.proofs.chunks.put_chunk as put
 use Rattle.write.proofs.chunks.put_chunk.Symbol as put-def

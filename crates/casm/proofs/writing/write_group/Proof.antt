@@ -45,15 +45,15 @@ use Rattle.layout.specs.declared.answer.Measured.{Measured}
 use Rattle.layout.specs.declared.record.Record.{Record}
 use Rattle.layout.specs.Edit.{replaced}
 use Rattle.layout.specs.Promises.{GroupWritten}
-use Rattle.write.specs.declared.check.Plan.{Plan}
-use Rattle.write.specs.Checking.{planOf, measuredBy, startPlace, startBytes}
-use Rattle.write.specs.Chunks.{chunksOf}
+use Rattle.plan.specs.declared.Plan.{Plan}
+use Rattle.plan.specs.Checking.{planOf, measuredBy, startPlace, startBytes}
+use Rattle.plan.specs.Chunks.{chunksOf}
 use Rattle.write.proofs.Written.{PlanFits, plan-fits, plan-written}
 use Rattle.layout.proofs.answer.Measured as Q
 use Rattle.layout.proofs.answer.Measured.Laws as Q′
 use Rattle.layout.proofs.record.Record as T
-use Rattle.write.proofs.check.Plan as P
-use Rattle.write.proofs.check.Plan.Laws as P′
+use Rattle.plan.proofs.Plan as P
+use Rattle.plan.proofs.Plan.Laws as P′
 use Rattle.lent.proofs.Again.{LentAgain, lends-again, comes-back}
 use Rattle.lent.proofs.plan_group as plan
 use Rattle.lent.proofs.plan_group.Symbol as plan-def
@@ -67,10 +67,10 @@ use Rattle.write.proofs.start.put_start as start
 use Rattle.write.proofs.start.put_start.Symbol as start-def
 use Rattle.write.proofs.start.put_start.Symbol.{name as #write·put-start}
 use Rattle.write.proofs.start.put_start.Met as start-thm
-use Rattle.write.proofs.check.measured as measured
-use Rattle.write.proofs.check.measured.Symbol as measured-def
-use Rattle.write.proofs.check.measured.Symbol.{name as #write·measured}
-use Rattle.write.proofs.check.measured.Met as measured-thm
+use Rattle.plan.proofs.measured as measured
+use Rattle.plan.proofs.measured.Symbol as measured-def
+use Rattle.plan.proofs.measured.Symbol.{name as #plan·measured}
+use Rattle.plan.proofs.measured.Met as measured-thm
 use Rattle.casm.proofs.writing.write_group.Key.{name as #casm·write-group}
 use Rattle.casm.proofs.writing.write_group as group
 use Rattle.casm.proofs.writing.write_group.Statement as stated
@@ -237,7 +237,7 @@ module _ {M : Type 1} (𝓤 : URA M) (H : Heap 𝓤) (A : Atoms 𝓤) (W : Given
   said-measure r = exE 𝓤 _ (λ ws. snd∗ 𝓤 (sem 𝓤 H A (lasts measured.ended tt (pl, tt) ws)) (fact 𝓤 (r ≡ measuredBy pl)))
 
   module _ (C : Calls 𝓤 H) (Λ : Loops 𝓤 H) (fm : FmC 𝓤 H (W .laws) C) (known-plan : Triple 𝓤 (C #lent·plan-group) (Planning 𝓤 H A mem run)) (known-start : Triple 𝓤 (C #write·put-start) (Start 𝓤 H A mem run)) (known-put : Triple 𝓤 (C #lent·put-chunks) (Put 𝓤 H A mem run))
-      (known-measure : Triple 𝓤 (C #write·measured) (Measure 𝓤 H A mem run)) (room₂ : Room R (length rs)) (room : Room u8 (length out)) where
+      (known-measure : Triple 𝓤 (C #plan·measured) (Measure 𝓤 H A mem run)) (room₂ : Room R (length rs)) (room : Room u8 (length out)) where
     abbrev word : Ty
     word = tyInt w64
 
@@ -399,7 +399,7 @@ module _ {M : Type 1} (𝓤 : URA M) (H : Heap 𝓤) (A : Atoms 𝓤) (W : Given
         started (subst (λ (z : Plan). Is P.the-row z (valsP z)) e (subst (λ (vs : List Val). Is P.the-row p vs) (LL.tells P.the-type P′.the-laws p _ is) is)) l₀ l₁ l₂ l₃ l₄ l₅ l₆ l₇ l₈ l₉ l₁₀ l₁₁ l₁₂ l₁₃ l₁₄ l₁₅))))))))))))))))))))
 
 module _ {M : Type 1} (𝓤 : URA M) (H : Heap 𝓤) (A : Atoms 𝓤) (W : Given 𝓤 H A) (mem : Memory → SProp 𝓤) (run : Routine → Fun 𝓤) (𝓣 : Tables 𝓤 H) (known-plan : Triple 𝓤 (𝓣 .C #lent·plan-group) (Planning 𝓤 H A mem run)) (known-start : Triple 𝓤 (𝓣 .C #write·put-start) (Start 𝓤 H A mem run))
-    (known-put : Triple 𝓤 (𝓣 .C #lent·put-chunks) (Put 𝓤 H A mem run)) (known-measure : Triple 𝓤 (𝓣 .C #write·measured) (Measure 𝓤 H A mem run)) where
+    (known-put : Triple 𝓤 (𝓣 .C #lent·put-chunks) (Put 𝓤 H A mem run)) (known-measure : Triple 𝓤 (𝓣 .C #plan·measured) (Measure 𝓤 H A mem run)) where
   group-walks : Walks 𝓤 H A group.ended stayed (WpFn 𝓤 H (𝓣 .C) (𝓣 .Λ) code.function) (group.clauses 𝓤 H A mem run)
   group-walks = walked 𝓤 H A group.ended stayed (group.clauses 𝓤 H A mem run) (WpFn 𝓤 H (𝓣 .C) (𝓣 .Λ) code.function)
       (λ κs. (slice-vals, (slice-vals, (uint-vals w64, (slice-vals, tt))))) (λ κs. (shr-slice-tells (named 0) (κs .0) u8, (shr-slice-tells (named 1) (κs .1 .0) R, (uint-tells w64, (mut-slice-tells (named 2) (κs .1 .1 .0) u8, tt)))))
@@ -421,4 +421,4 @@ write-group-spec 𝓤 H 𝓜 𝓖 𝓡 =
     (cited 𝓤 H (Planning 𝓤 H (𝓖 .A) (𝓜 .mem) (𝓡 .run)) 𝓜 𝓡 code.env #lent·plan-group plan-def.routine code.calls-lent·plan-group (plan-thm.met 𝓤 H 𝓜 𝓖 𝓡))
     (cited 𝓤 H (Start 𝓤 H (𝓖 .A) (𝓜 .mem) (𝓡 .run)) 𝓜 𝓡 code.env #write·put-start start-def.routine code.calls-write·start·put-start (start-thm.met 𝓤 H 𝓜 𝓖 𝓡))
     (cited 𝓤 H (Put 𝓤 H (𝓖 .A) (𝓜 .mem) (𝓡 .run)) 𝓜 𝓡 code.env #lent·put-chunks put-def.routine code.calls-lent·put-chunks (put-thm.met 𝓤 H 𝓜 𝓖 𝓡))
-    (cited 𝓤 H (Measure 𝓤 H (𝓖 .A) (𝓜 .mem) (𝓡 .run)) 𝓜 𝓡 code.env #write·measured measured-def.routine code.calls-write·check·measured (measured-thm.met 𝓤 H 𝓜 𝓖 𝓡)))
+    (cited 𝓤 H (Measure 𝓤 H (𝓖 .A) (𝓜 .mem) (𝓡 .run)) 𝓜 𝓡 code.env #plan·measured measured-def.routine code.calls-plan·measured (measured-thm.met 𝓤 H 𝓜 𝓖 𝓡)))

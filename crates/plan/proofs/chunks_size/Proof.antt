@@ -1,8 +1,8 @@
 use mathlib.Core.Path.{sym, ap}
-use Rattle.write.specs.Checking.{chunksSize}
+use Rattle.plan.specs.Checking.{chunksSize}
 use borrow.Author.Needs.{needs}
-use Rattle.write.proofs.check.chunks_size.Statement.{statement}
-use Rattle.write.proofs.check.chunks_size.Tie as tie
+use Rattle.plan.proofs.chunks_size.Statement.{statement}
+use Rattle.plan.proofs.chunks_size.Tie as tie
 
 enum-told : tie.Need-enum-told
 enum-told c = search needs

@@ -12,9 +12,9 @@ use Rattle.layout.specs.declared.record.Record.{Record}
 use Rattle.layout.specs.Records.{blank, channelOf, firstBad}
 use Rattle.layout.specs.Ranges.{firstEdition, inside}
 use Rattle.layout.specs.Sdec.{soundText}
-use Rattle.write.specs.declared.check.Checked.{Checked}
-use Rattle.write.specs.Checking.{refusedAt, begun, chunksSize, looked, lookedAt}
-use Rattle.write.proofs.Looking.{size-most}
+use Rattle.plan.specs.declared.Checked.{Checked}
+use Rattle.plan.specs.Checking.{refusedAt, begun, chunksSize, looked, lookedAt}
+use Rattle.plan.proofs.Looking.{size-most}
 
 -- a sound text is at most 255 bytes
 pub text-most : (t : List ℕ) → soundText t ≡ true → length t ≤ 255
@@ -30,22 +30,22 @@ begun-most : (text : List ℕ) (lent count : ℕ) → begun text lent count .len
 unfolding begun refusedAt
 begun-most text lent count = go (ltb lent count) (soundText text) refl
   where
-    go : (a b : Bool) → soundText text ≡ b → cond a (refusedAt 16 0) (cond (not b) (refusedAt 8 0) (record { number = 0; place = 0; records = count; length = 16 + length text; homes = replicate 16 0 })) .length ≤ 271
+    go : (a b : Bool) → soundText text ≡ b → cond a (refusedAt 16 0) (cond (not b) (refusedAt 8 0) (record { number = 0; place = 0; records = count; length = 16 + length text; seen = replicate 16 false })) .length ≤ 271
     go true b e = omega arith
     go false false e = omega arith
     go false true e = omega (arith, text-most text e)
 
 looked-most : (x : Checked) (i : ℕ) (r : Record) (k : ℕ) → x .length ≤ k → looked x i r .length ≤ k + 45
 unfolding looked refusedAt
-looked-most x i r k h = go (eqb (x .number) 0) (ltb (firstBad firstEdition r) 26) (eqb (getD (x .homes) (channelOf r) 0) 0)
+looked-most x i r k h = go (eqb (x .number) 0) (ltb (firstBad firstEdition r) 26) (getD (x .seen) (channelOf r) false)
   where
     go : (a b d : Bool)
-        → cond (not a) x (cond b (refusedAt 9 (27 * i + firstBad firstEdition r)) (cond (not d) (refusedAt 10 (27 * i))
-        (record { number = 0; place = 0; records = x .records; length = x .length + chunksSize (r .second); homes = set (x .homes) (channelOf r) (i + 1) }))) .length ≤ k + 45
+        → cond (not a) x (cond b (refusedAt 9 (27 * i + firstBad firstEdition r)) (cond d (refusedAt 10 (27 * i))
+        (record { number = 0; place = 0; records = x .records; length = x .length + chunksSize (r .second); seen = set (x .seen) (channelOf r) true }))) .length ≤ k + 45
     go false b d = omega arith
     go true true d = omega arith
-    go true false false = omega arith
-    go true false true = omega (arith, size-most (r .second))
+    go true false true = omega arith
+    go true false false = omega (arith, size-most (r .second))
 
 pub length-most : (text : List ℕ) (lent count : ℕ) (rs : List Record) (i : ℕ) → lookedAt (begun text lent count) rs i .length ≤ 271 + 45 * i
 unfolding lookedAt
@@ -58,7 +58,7 @@ pub records-within : (text : List ℕ) (lent count : ℕ) → begun text lent co
 unfolding begun refusedAt
 records-within text lent count = go (ltb lent count) (soundText text) refl
   where
-    go : (a b : Bool) → ltb lent count ≡ a → cond a (refusedAt 16 0) (cond (not b) (refusedAt 8 0) (record { number = 0; place = 0; records = count; length = 16 + length text; homes = replicate 16 0 })) .records ≤ lent
+    go : (a b : Bool) → ltb lent count ≡ a → cond a (refusedAt 16 0) (cond (not b) (refusedAt 8 0) (record { number = 0; place = 0; records = count; length = 16 + length text; seen = replicate 16 false })) .records ≤ lent
     go true b e = omega arith
     go false false e = omega arith
     go false true e = omega (arith, ltb-false lent count e)

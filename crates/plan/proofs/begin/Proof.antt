@@ -1,9 +1,9 @@
 use mathlib.Core.Path.{sym, _∙_}
 use borrow.Author.Tests.{not-true, not-false}
-use Rattle.write.proofs.Looking.{begun-many, begun-bad, begun-sound}
+use Rattle.plan.proofs.Looking.{begun-many, begun-bad, begun-sound}
 use borrow.Author.Needs.{needs}
-use Rattle.write.proofs.check.begin.Statement.{statement}
-use Rattle.write.proofs.check.begin.Tie as tie
+use Rattle.plan.proofs.begin.Statement.{statement}
+use Rattle.plan.proofs.begin.Tie as tie
 
 refused-at-requires : tie.Need-refused-at-requires
 refused-at-requires c κs = search needs

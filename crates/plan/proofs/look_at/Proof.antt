@@ -2,11 +2,11 @@ use Prim.Native.Nat.{_<_, _≤_}
 use mathlib.Core.Path.{_≡_, sym, _∙_}
 use native.Mathlib.Omega.{arith}
 use Rattle.layout.specs.Records.{channelOf}
-use Rattle.write.specs.Checking.{chunksSize}
-use Rattle.write.proofs.Looking.{looked-stays, looked-bad, channel-low, looked-again, looked-on, size-most}
+use Rattle.plan.specs.Checking.{chunksSize}
+use Rattle.plan.proofs.Looking.{looked-stays, looked-bad, channel-low, looked-again, looked-on, size-most}
 use borrow.Author.Needs.{needs}
-use Rattle.write.proofs.check.look_at.Statement.{statement}
-use Rattle.write.proofs.check.look_at.Tie as tie
+use Rattle.plan.proofs.look_at.Statement.{statement}
+use Rattle.plan.proofs.look_at.Tie as tie
 
 returns : tie.Need-returns
 returns c = sym (looked-stays _ _ _ (c .if1 .taken))
@@ -29,9 +29,6 @@ returns-2 c = c .refused-at .ensures ∙ sym (looked-bad _ _ _ (c .before .befor
 cast-channel : tie.Need-cast-channel
 cast-channel c = search needs
 
-mul-if3 : tie.Need-mul-if3
-mul-if3 c = search needs
-
 array-read-if3 : tie.Need-array-read-if3
 unfolding channelOf
 array-read-if3 c = channel-low _ _ (c .before .before .before .first-bad .ensures) (c .before .before .if2 .left)
@@ -48,23 +45,17 @@ returns-3 c =
     let e = c .before .before .before .before in
     c .refused-at2 .ensures ∙ sym (looked-again _ _ _ (e .before .before .before .if1 .left) _ (e .before .first-bad .ensures) (e .if2 .left) (c .before .if3 .taken))
 
-add-homes : tie.Need-add-homes
-add-homes c = search needs
-
-mul-homes : tie.Need-mul-homes
-mul-homes c = search needs
-
-array-write-homes : tie.Need-array-write-homes
+array-write-seen : tie.Need-array-write-seen
 unfolding channelOf
-array-write-homes c =
+array-write-seen c =
     let e = c .before .before .before in
     channel-low _ _ (e .before .first-bad .ensures) (e .if2 .left)
 
 chunks-size-requires : tie.Need-chunks-size-requires
 chunks-size-requires c κs = search needs
 
-add-t15 : tie.Need-add-t15
-add-t15 c =
+add-t19 : tie.Need-add-t19
+add-t19 c =
     let start = c .before .before .before .before .before .before .before .before .before .before in
     omega (arith, start .pre .0, start .pre .1, c .before .chunks-size .ensures, size-most (start .args .r .second))
 
@@ -85,14 +76,11 @@ look-at-spec =
     refused-at-requires
     returns-2
     cast-channel
-    mul-if3
     array-read-if3
     mul-refused-at-2
     refused-at-requires-2
     returns-3
-    add-homes
-    mul-homes
-    array-write-homes
+    array-write-seen
     chunks-size-requires
-    add-t15
+    add-t19
     returns-4)

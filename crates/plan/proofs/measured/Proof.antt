@@ -1,7 +1,7 @@
 use mathlib.Core.Path.{refl}
-use Rattle.write.specs.Checking.{measuredBy}
-use Rattle.write.proofs.check.measured.Statement.{statement}
-use Rattle.write.proofs.check.measured.Tie as tie
+use Rattle.plan.specs.Checking.{measuredBy}
+use Rattle.plan.proofs.measured.Statement.{statement}
+use Rattle.plan.proofs.measured.Tie as tie
 
 returns : tie.Need-returns
 unfolding measuredBy

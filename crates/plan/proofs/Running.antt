@@ -19,13 +19,12 @@ use Rattle.layout.specs.Ranges.{firstEdition}
 use Rattle.layout.specs.Records.{blank, channelOf, firstBad}
 use Rattle.layout.specs.Write.{recordOn, recordTurn}
 use Rattle.layout.proofs.Scans.{run-end, run-stop, run-more}
-use Rattle.group.specs.Homes.{Home, Homes}
-use Rattle.group.proofs.HomeLaws.{home-again, home-fresh, homes-start, homes-next}
-use Rattle.write.specs.declared.check.Checked.{Checked}
-use Rattle.write.specs.Chunks.{chunkOf, chunksOf}
-use Rattle.write.specs.Checking.{refusedAt, chunksSize, looked, lookedAt}
-use Rattle.write.proofs.Looking.{channel-low, looked-stays, looked-bad, looked-again, looked-on}
-use Rattle.write.proofs.Passes.{chunks-next, chunk-sizes}
+use Rattle.plan.specs.declared.Checked.{Checked}
+use Rattle.plan.specs.Chunks.{chunkOf, chunksOf}
+use Rattle.plan.specs.Checking.{refusedAt, chunksSize, looked, lookedAt}
+use Rattle.plan.proofs.Seen.{Seen, seen-next}
+use Rattle.plan.proofs.Looking.{channel-low, looked-stays, looked-bad, looked-again, looked-on}
+use Rattle.plan.proofs.Passes.{chunks-next, chunk-sizes}
 
 -- the chunks of records, Ctabs and Cntts
 abbrev pub sizes : List Record → ℕ
@@ -72,7 +71,7 @@ module _ (rs : List Record) where
   pub record Going (start i : ℕ) (x : Checked) : Type 0 where
     pub number : x .number ≡ 0
     pub records : x .records ≡ n
-    pub homes : Homes chan i (x .homes)
+    pub seen : Seen chan i (x .seen)
     pub size : x .length ≡ start + sizes (take i rs)
     pub rest : run turn 0 n ≡ run turn i n
 
@@ -93,24 +92,22 @@ module _ (rs : List Record) where
     refused number place z t e = rw e (record { number = z; stopped = g .rest ∙ run-stop turn i n number place l t })
 
     step : Going start (i + 1) (looked x i here) ⊎ Halted (looked x i here)
-    step = go (decLt (firstBad firstEdition here) 26) (eqb (getD (x .homes) (channelOf here) 0) 0) refl
+    step = go (decLt (firstBad firstEdition here) 26) (getD (x .seen) (channelOf here) false) refl
       where
-        go : Dec (firstBad firstEdition here < 26) → (b : Bool) → eqb (getD (x .homes) (channelOf here) 0) 0 ≡ b → Going start (i + 1) (looked x i here) ⊎ Halted (looked x i here)
+        go : Dec (firstBad firstEdition here < 26) → (b : Bool) → getD (x .seen) (channelOf here) false ≡ b → Going start (i + 1) (looked x i here) ⊎ Halted (looked x i here)
         go (yes a) b e = inr (refused 9 (27 * i + firstBad firstEdition here) (omega arith) (turn-bad rs i a) (looked-bad x i here (g .number) (firstBad firstEdition here) refl a))
-        go (no a) false e =
-            let h : 26 ≤ firstBad firstEdition here = omega arith in
-            let d = eqb-false _ _ e in
-            let seen = home-again chan i (channelOf here) (getD (x .homes) (channelOf here) 0) (g .homes .each (channelOf here) (channel-low here (firstBad firstEdition here) refl h)) d in
-            inr (refused 10 (27 * i) (omega arith) (turn-again rs i h seen) (looked-again x i here (g .number) (firstBad firstEdition here) refl h d))
         go (no a) true e =
             let h : 26 ≤ firstBad firstEdition here = omega arith in
+            let again = sym (g .seen .each (channelOf here) (channel-low here (firstBad firstEdition here) refl h)) ∙ e in
+            inr (refused 10 (27 * i) (omega arith) (turn-again rs i h again) (looked-again x i here (g .number) (firstBad firstEdition here) refl h e))
+        go (no a) false e =
+            let h : 26 ≤ firstBad firstEdition here = omega arith in
             let low = channel-low here (firstBad firstEdition here) refl h in
-            let d = eqb-true _ _ e in
-            let fresh = home-fresh chan i (channelOf here) (getD (x .homes) (channelOf here) 0) (g .homes .each (channelOf here) low) d in
-            inl (rw (looked-on x i here (g .number) (firstBad firstEdition here) refl h (chunksSize (here .second)) d refl) (record {
+            let fresh = sym (g .seen .each (channelOf here) low) ∙ e in
+            inl (rw (looked-on x i here (g .number) (firstBad firstEdition here) refl h (chunksSize (here .second)) e refl) (record {
               number = refl;
               records = g .records;
-              homes = homes-next chan i (channelOf here) (x .homes) (g .homes) low refl fresh;
+              seen = seen-next chan i (channelOf here) (x .seen) (g .seen) low refl;
               size = omega (arith, g .size, sizes-next rs i l);
               rest = g .rest ∙ run-more turn i n l (turn-more rs i h fresh);
             }))

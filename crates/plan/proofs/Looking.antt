@@ -17,9 +17,9 @@ use Rattle.layout.specs.Records.{channelOf, bytesOf, badByte, badSecond, firstB
 use Rattle.layout.specs.Sdec.{soundText}
 use Rattle.layout.proofs.Scans.{first-passed}
 use Rattle.layout.proofs.Outs.{highs, in-range}
-use Rattle.write.specs.declared.check.Checked.{Checked}
-use Rattle.write.specs.declared.check.Plan.{Plan}
-use Rattle.write.specs.Checking.{refusedAt, begun, chunksSize, looked, noPlan, planned, startPlace, startBytes}
+use Rattle.plan.specs.declared.Checked.{Checked}
+use Rattle.plan.specs.declared.Plan.{Plan}
+use Rattle.plan.specs.Checking.{refusedAt, begun, chunksSize, looked, noPlan, planned, startPlace, startBytes}
 
 module _ (text : List ℕ) (lent count : ℕ) where
   pub begun-many : lent < count → begun text lent count ≡ refusedAt 16 0
@@ -31,7 +31,7 @@ module _ (text : List ℕ) (lent count : ℕ) where
     unfolding begun
     begun-bad e = rw (le-ltb lent count h, e)
 
-    pub begun-sound : soundText text ≡ true → begun text lent count ≡ record { number = 0; place = 0; records = count; length = 16 + length text; homes = replicate 16 0 }
+    pub begun-sound : soundText text ≡ true → begun text lent count ≡ record { number = 0; place = 0; records = count; length = 16 + length text; seen = replicate 16 false }
     unfolding begun
     begun-sound e = rw (le-ltb lent count h, e)
 
@@ -64,14 +64,14 @@ module _ (x : Checked) (i : ℕ) (r : Record) where
     looked-bad h = rw (eq-eqb (x .number) 0 z, ← e, lt-ltb k 26 h)
 
     module _ (h : 26 ≤ k) where
-      pub looked-again : (getD (x .homes) (channelOf r) 0 ≡ 0 → ⊥) → looked x i r ≡ refusedAt 10 (27 * i)
+      pub looked-again : getD (x .seen) (channelOf r) false ≡ true → looked x i r ≡ refusedAt 10 (27 * i)
       unfolding looked
-      looked-again d = rw (eq-eqb (x .number) 0 z, ← e, le-ltb k 26 h, ne-eqb (getD (x .homes) (channelOf r) 0) 0 d)
+      looked-again d = rw (eq-eqb (x .number) 0 z, ← e, le-ltb k 26 h, d)
 
-      pub looked-on : (size : ℕ) → getD (x .homes) (channelOf r) 0 ≡ 0 → size ≡ chunksSize (r .second)
-          → looked x i r ≡ record { number = 0; place = 0; records = x .records; length = x .length + size; homes = set (x .homes) (channelOf r) (i + 1) }
+      pub looked-on : (size : ℕ) → getD (x .seen) (channelOf r) false ≡ false → size ≡ chunksSize (r .second)
+          → looked x i r ≡ record { number = 0; place = 0; records = x .records; length = x .length + size; seen = set (x .seen) (channelOf r) true }
       unfolding looked
-      looked-on size d q = rw (eq-eqb (x .number) 0 z, ← e, le-ltb k 26 h, eq-eqb (getD (x .homes) (channelOf r) 0) 0 d, q)
+      looked-on size d q = rw (eq-eqb (x .number) 0 z, ← e, le-ltb k 26 h, d, q)
 
 module _ (x : Checked) (room : ℕ) where
   pub planned-not : (x .number ≡ 0 → ⊥) → planned x room ≡ noPlan (x .number) (x .place)
@@ -86,17 +86,3 @@ module _ (x : Checked) (room : ℕ) where
     pub planned-fits : x .length ≤ room → planned x room ≡ record { number = 0; place = 0; records = x .records; length = x .length }
     unfolding planned
     planned-fits h = rw (eq-eqb (x .number) 0 z, le-ltb room (x .length) h)
-
--- ---- the start of a group by its plan
-
-module _ (text out : List ℕ) (p : Plan) where
-  pub start-none : (p .number ≡ 0 → ⊥) → (0 ≡ startPlace text p) × (out ≡ replaced out 0 (startBytes text p))
-  unfolding startPlace startBytes replaced
-  start-none h = rw (ne-eqb (p .number) 0 h) (refl, refl)
-
-  pub start-put : (last : List ℕ) → p .number ≡ 0 → last ≡ CSEG ++ (four (p .length - 8) ++ (chunk Sdec text ++ drop (16 + length text) out))
-      → (16 + length text ≡ startPlace text p) × (last ≡ replaced out 0 (startBytes text p))
-  unfolding startPlace startBytes replaced chunk four
-  start-put last z e =
-      let q : 16 + length text ≡ 0 + length (CSEG ++ (four (p .length - 8) ++ chunk Sdec text)) = omega arith in
-      rw (eq-eqb (p .number) 0 z) (refl, e ∙ ap (λ (k : ℕ). CSEG ++ (four (p .length - 8) ++ (chunk Sdec text ++ drop k out))) q)

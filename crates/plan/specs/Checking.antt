@@ -1,4 +1,4 @@
--- What the records looked at so far come to: a refusal, or the homes of their source channels and the group's length so far.
+-- What the records looked at so far come to: a refusal, or which source channels they have and the group's length so far.
 use Prim.Native.Nat.{ℕ, zero, suc, _+_, _*_, _-_}
 use mathlib.Core.Bool.{Bool, true, false, cond, not}
 use mathlib.Core.List.{List, [], _++_}
@@ -13,19 +13,19 @@ use Rattle.layout.specs.Refusals.{accepted, badText, outOfRange, channelAgain, 
 use Rattle.layout.specs.Ranges.{firstEdition}
 use Rattle.layout.specs.Records.{blank, channelOf, firstBad}
 use Rattle.layout.specs.Sdec.{soundText}
-use Rattle.write.specs.declared.check.Checked.{Checked}
-use Rattle.write.specs.declared.check.Plan.{Plan}
+use Rattle.plan.specs.declared.Checked.{Checked}
+use Rattle.plan.specs.declared.Plan.{Plan}
 
 -- a refusal: no record is to be looked at
 unfoldable pub refusedAt : ℕ → ℕ → Checked
-refusedAt number place = record { number = number; place = place; records = 0; length = 0; homes = replicate 16 0 }
+refusedAt number place = record { number = number; place = place; records = 0; length = 0; seen = replicate 16 false }
 
 -- before the first of the records of a lent table of so many: 16, then 8
 unfoldable pub begun : List ℕ → ℕ → ℕ → Checked
 begun text lent count =
     cond (ltb lent count) (refusedAt badNumber 0)
     (cond (not (soundText text)) (refusedAt badText 0)
-    (record { number = accepted; place = 0; records = count; length = 16 + length text; homes = replicate 16 0 }))
+    (record { number = accepted; place = 0; records = count; length = 16 + length text; seen = replicate 16 false }))
 
 -- the bytes of a record's chunks: its Ctab, and its Cntt where it has one
 unfoldable pub chunksSize : SecondTable → ℕ
@@ -37,8 +37,8 @@ unfoldable pub looked : Checked → ℕ → Record → Checked
 looked x i r =
     cond (not (eqb (x .number) accepted)) x
     (cond (ltb (firstBad firstEdition r) 26) (refusedAt outOfRange (27 * i + firstBad firstEdition r))
-    (cond (not (eqb (getD (x .homes) (channelOf r) 0) 0)) (refusedAt channelAgain (27 * i))
-    (record { number = accepted; place = 0; records = x .records; length = x .length + chunksSize (r .second); homes = set (x .homes) (channelOf r) (i + 1) })))
+    (cond (getD (x .seen) (channelOf r) false) (refusedAt channelAgain (27 * i))
+    (record { number = accepted; place = 0; records = x .records; length = x .length + chunksSize (r .second); seen = set (x .seen) (channelOf r) true })))
 
 -- the first n records looked at
 unfoldable pub lookedAt : Checked → List Record → ℕ → Checked

@@ -1,7 +1,7 @@
 use mathlib.Core.Path.{refl}
-use Rattle.write.specs.Checking.{refusedAt}
-use Rattle.write.proofs.check.refused_at.Statement.{statement}
-use Rattle.write.proofs.check.refused_at.Tie as tie
+use Rattle.plan.specs.Checking.{refusedAt}
+use Rattle.plan.proofs.refused_at.Statement.{statement}
+use Rattle.plan.proofs.refused_at.Tie as tie
 
 returns : tie.Need-returns
 unfolding refusedAt

@@ -1,7 +1,7 @@
 use mathlib.Core.Path.{refl}
-use Rattle.write.specs.Checking.{noPlan}
-use Rattle.write.proofs.check.no_plan.Statement.{statement}
-use Rattle.write.proofs.check.no_plan.Tie as tie
+use Rattle.plan.specs.Checking.{noPlan}
+use Rattle.plan.proofs.no_plan.Statement.{statement}
+use Rattle.plan.proofs.no_plan.Tie as tie
 
 returns : tie.Need-returns
 unfolding noPlan

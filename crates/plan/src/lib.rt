@@ -2,19 +2,19 @@
 ghost use mathlib.Core.Path.{_≡_};
 ghost use Prim.Native.Nat.{_+_, _*_, _≤_, _<_};
 ghost use lib.ListN.{length};
-ghost use Rattle.write.specs.Checking.{refusedAt, begun, chunksSize, looked, noPlan, planned, measuredBy};
+ghost use Rattle.plan.specs.Checking.{refusedAt, begun, chunksSize, looked, noPlan, planned, measuredBy};
 use layout::answer::Measured;
 use layout::record::Record;
 use layout::record::SecondTable;
 
 // What the records looked at so far come to: a refusal, or how many are to be looked at in all, the group's length with those seen,
-// and for each source channel 0, or one more than the number of its record.
+// and which source channels they have.
 pub struct Checked {
     pub number: u8,
     pub place: usize,
     pub records: usize,
     pub length: usize,
-    pub homes: [usize; 16],
+    pub seen: [bool; 16],
 }
 
 // What writing comes to: the refusal, or how many records go into a group of so many bytes.
@@ -33,7 +33,7 @@ fn refused_at(number: u8, place: usize) -> Checked
         place: place,
         records: 0,
         length: 0,
-        homes: [0; 16],
+        seen: [false; 16],
     }
 }
 
@@ -52,7 +52,7 @@ pub fn begin(text: &[u8], lent: usize, count: usize) -> Checked
         place: 0,
         records: count,
         length: 16 + text.len(),
-        homes: [0; 16],
+        seen: [false; 16],
     }
 }
 
@@ -81,17 +81,17 @@ pub fn look_at(x: Checked, i: usize, r: Record) -> Checked
         return refused_at(9, 27 * i + k);
     }
     let channel = source.0 as usize;
-    let mut homes = x.homes;
-    if homes[channel] != 0 {
+    let mut seen = x.seen;
+    if seen[channel] {
         return refused_at(10, 27 * i);
     }
-    homes[channel] = i + 1;
+    seen[channel] = true;
     Checked {
         number: 0,
         place: 0,
         records: x.records,
         length: x.length + chunks_size(second),
-        homes: homes,
+        seen: seen,
     }
 }
 

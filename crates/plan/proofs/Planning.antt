@@ -20,13 +20,13 @@ use Rattle.layout.specs.Records.{blank, channelOf}
 use Rattle.layout.specs.Sdec.{soundText}
 use Rattle.layout.specs.Write.{payloadBytes, groupBytes, recordTurn, recordsRun, groupFrom, written}
 use Rattle.layout.proofs.Scans.{run-end}
-use Rattle.group.proofs.HomeLaws.{homes-start}
-use Rattle.write.specs.declared.check.Checked.{Checked}
-use Rattle.write.specs.declared.check.Plan.{Plan}
-use Rattle.write.specs.Chunks.{chunkOf, chunksOf}
-use Rattle.write.specs.Checking.{refusedAt, begun, looked, lookedAt, noPlan, planned, planOf}
-use Rattle.write.proofs.Looking.{begun-many, begun-bad, begun-sound, planned-not, planned-short, planned-fits}
-use Rattle.write.proofs.Running.{sizes, Going, Halted, going}
+use Rattle.plan.specs.declared.Checked.{Checked}
+use Rattle.plan.specs.declared.Plan.{Plan}
+use Rattle.plan.specs.Chunks.{chunkOf, chunksOf}
+use Rattle.plan.specs.Checking.{refusedAt, begun, looked, lookedAt, noPlan, planned, planOf}
+use Rattle.plan.proofs.Seen.{seen-start}
+use Rattle.plan.proofs.Looking.{begun-many, begun-bad, begun-sound, planned-not, planned-short, planned-fits}
+use Rattle.plan.proofs.Running.{sizes, Going, Halted, going}
 
 -- ---- the group's length
 
@@ -85,7 +85,7 @@ module _ (text : List ℕ) (table : List Record) (count room : ℕ) where
     rs = take count table
 
     abbrev begins : Checked
-    begins = record { number = 0; place = 0; records = count; length = 16 + length text; homes = replicate 16 0 }
+    begins = record { number = 0; place = 0; records = count; length = 16 + length text; seen = replicate 16 false }
 
     abbrev ends : Checked
     ends = lookedAt begins rs count
@@ -143,7 +143,7 @@ module _ (text : List ℕ) (table : List Record) (count room : ℕ) where
               })
 
     starts : Going rs (16 + length text) 0 begins
-    starts = record { number = refl; records = sym long; homes = homes-start (λ j. channelOf (getD rs j blank)) (replicate 16 0) refl; size = omega (arith, none rs); rest = refl }
+    starts = record { number = refl; records = sym long; seen = seen-start (λ j. channelOf (getD rs j blank)); size = omega (arith, none rs); rest = refl }
 
     sound : Says (planOf text table count room)
     sound = go (going rs (16 + length text) begins starts count (omega (arith, long)))

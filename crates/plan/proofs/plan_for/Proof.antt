@@ -1,8 +1,8 @@
 use mathlib.Core.Path.{sym, _∙_}
-use Rattle.write.proofs.Looking.{planned-not, planned-short, planned-fits}
+use Rattle.plan.proofs.Looking.{planned-not, planned-short, planned-fits}
 use borrow.Author.Needs.{needs}
-use Rattle.write.proofs.check.plan_for.Statement.{statement}
-use Rattle.write.proofs.check.plan_for.Tie as tie
+use Rattle.plan.proofs.plan_for.Statement.{statement}
+use Rattle.plan.proofs.plan_for.Tie as tie
 
 no-plan-requires : tie.Need-no-plan-requires
 no-plan-requires c κs = search needs

@@ -14,8 +14,8 @@ use Rattle.layout.specs.Bytes.{four, chunk}
 use Rattle.layout.specs.Records.{blank, bytesOf, channelOf, fileBytes}
 use Rattle.layout.specs.Edit.{replaced}
 use Rattle.layout.specs.Write.{ctabBytes, cnttBytes}
-use Rattle.write.specs.Chunks.{chunkOf, chunksOf}
-use Rattle.write.specs.Checking.{chunksSize}
+use Rattle.plan.specs.Chunks.{chunkOf, chunksOf}
+use Rattle.plan.specs.Checking.{chunksSize}
 
 -- bytes b behind the bytes w that were written over `out`
 pub replaced-on : (w b out : List ℕ) → replaced (w ++ drop (length w) out) (length w) b ≡ (w ++ b) ++ drop (length (w ++ b)) out

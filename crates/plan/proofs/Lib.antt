@@ -1,0 +1,6 @@
+pub mod Seen
+pub mod Looking
+pub mod Length
+pub mod Passes
+pub mod Running
+pub mod Planning
