@@ -39,6 +39,14 @@ struct fault { uint8_t number; size_t place; };
 static const struct fault fine = {0, 0};
 #define FAULT(n, p) ((struct fault){(n), (p)})
 
+/* n bytes alike; written out, because names are short and a call of memcmp costs more than it saves */
+static inline _Bool alike(const uint8_t *a, const uint8_t *b, size_t n)
+{
+    for (size_t i = 0; i < n; i++)
+        if (a[i] != b[i]) return 0;
+    return 1;
+}
+
 static _Bool sound_text(const uint8_t *t, size_t n)
 {
     uint8_t ends[128];
@@ -50,7 +58,7 @@ static _Bool sound_text(const uint8_t *t, size_t n)
         size_t size = i - from;
         if (size == 0 || size > 16) return 0;
         for (size_t k = 0, start = 0; k < names; start = ends[k] + 1, k++)
-            if (ends[k] - start == size && memcmp(t + start, t + from, size) == 0) return 0;
+            if (ends[k] - start == size && alike(t + start, t + from, size)) return 0;
         ends[names++] = (uint8_t)i;
         from = i + 1;
     }
@@ -119,7 +127,7 @@ static _Bool has_name(const uint8_t *t, size_t n, const uint8_t *name, size_t si
 {
     for (size_t i = 0, from = 0; i <= n; i++)
         if (i == n || t[i] == ',') {
-            if (i - from == size && memcmp(t + from, name, size) == 0) return 1;
+            if (i - from == size && alike(t + from, name, size)) return 1;
             from = i + 1;
         }
     return 0;

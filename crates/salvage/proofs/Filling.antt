@@ -3,11 +3,12 @@ use Prim.Native.Nat.{ℕ, suc, _+_, _*_, _≤_, _<_}
 use native.Mathlib.Nat.{suc-add}
 use native.Mathlib.Omega.{arith}
 use mathlib.Core.Path.{_≡_, refl, sym, ap, _∙_}
+use mathlib.Core.Bool.{Bool, true, false, cond}
 use mathlib.Core.List.{List, [], _∷_, _++_, append-assoc, flatMap}
 use lib.ListN.{length, getD, take, drop, set, length-drop, length-set}
 use lib.Seq.{drop-drop, length-take-le, take-add, drop-cons, take-length}
 use Rattle.layout.specs.Salvage.{Entry, salvage, entryNumbers, listNumbers}
-use Rattle.salvage.specs.Entries.{left, EntryAt, listAfter}
+use Rattle.salvage.specs.Entries.{left, EntryAt, entryPut, listAfter}
 use Rattle.salvage.proofs.Each.{flatMap-append}
 use Rattle.salvage.proofs.Steps.{left-start, left-end}
 use Rattle.salvage.proofs.Room.{numbers-length}
@@ -61,39 +62,53 @@ written-start s = record { done = omega arith; rest = sym (left-start s) }
 pub written-end : (w : List Entry) (n : ℕ) → Written w n [] → n ≡ length w
 written-end w n t = omega (arith, t .done, length-drop n w, ap length (t .rest))
 
--- ---- the loop of `fill`
+-- ---- the loop of `entries`
 
-pub record Filling (s old now : List ℕ) (n i : ℕ) : Type 0 where
+pub record Filling (s old : List ℕ) (stored : Bool) (now : List ℕ) (n i : ℕ) : Type 0 where
   pub within : i ≤ length s
+  pub few : n ≤ i
   pub turn : Written (salvage s) n (left s i)
-  pub list : now ≡ listAfter (take n (salvage s)) old
+  pub list : now ≡ cond stored (listAfter (take n (salvage s)) old) old
   pub long : length now ≡ length old
 
-pub filling-start : (s old : List ℕ) → Filling s old old 0 0
+pub filling-start : (s old : List ℕ) (stored : Bool) → Filling s old stored old 0 0
 unfolding listAfter listNumbers flatMap
-filling-start s old = record { within = omega arith; turn = written-start s; list = refl; long = refl }
+filling-start s old stored = record { within = omega arith; few = omega arith; turn = written-start s; list = either stored; long = refl }
+  where
+    either : (b : Bool) → old ≡ cond b old old
+    either true = refl
+    either false = refl
 
-module _ (s old now : List ℕ) (n i size kind : ℕ) (h : Filling s old now n i) (e : EntryAt s i size kind) where
+module _ (s old : List ℕ) (stored : Bool) (now : List ℕ) (n i size kind : ℕ) (h : Filling s old stored now n i) (e : EntryAt s i size kind) where
   here : Written (salvage s) n (record { place = i; size = size; kind = kind } ∷ left s (i + size))
   here = rw (e .is) at (h .turn)
 
-  pub filling-room : n < length (salvage s)
-  filling-room = written-room _ n _ _ here
-
   pub filling-fits : 3 * length (salvage s) ≤ length old → 3 * n + 3 ≤ length now
-  filling-fits r = omega (arith, filling-room, h .long)
+  filling-fits r = omega (arith, written-room _ n _ _ here, h .long)
 
-  pub filling-turn : 3 * length (salvage s) ≤ length old → Filling s old (set (set (set now (3 * n) i) (3 * n + 1) size) (3 * n + 2) kind) (n + 1) (i + size)
-  filling-turn r =
+  put-long : (b : Bool) → length (cond b (entryPut now n i size kind) now) ≡ length old
+  unfolding entryPut
+  put-long true = length-set (set (set now (3 * n) i) (3 * n + 1) size) (3 * n + 2) kind ∙ length-set (set now (3 * n) i) (3 * n + 1) size ∙ length-set now (3 * n) i ∙ h .long
+  put-long false = h .long
+
+  put-list : (b : Bool) → (b ≡ true → 3 * length (salvage s) ≤ length old) → now ≡ cond b (listAfter (take n (salvage s)) old) old
+      → cond b (entryPut now n i size kind) now ≡ cond b (listAfter (take (n + 1) (salvage s)) old) old
+  unfolding entryPut
+  put-list true r q = written-list _ n _ _ here old now (r refl) q
+  put-list false r q = q
+
+  pub filling-turn : (stored ≡ true → 3 * length (salvage s) ≤ length old) → (after : List ℕ) → after ≡ cond stored (entryPut now n i size kind) now → Filling s old stored after (n + 1) (i + size)
+  filling-turn r after q =
       record {
         within = e .within;
+        few = omega (arith, h .few, e .some);
         turn = written-next _ n _ _ here;
-        list = written-list _ n _ _ here old now r (h .list);
-        long = length-set (set (set now (3 * n) i) (3 * n + 1) size) (3 * n + 2) kind ∙ length-set (set now (3 * n) i) (3 * n + 1) size ∙ length-set now (3 * n) i ∙ h .long;
+        list = q ∙ put-list stored r (h .list);
+        long = ap length q ∙ put-long stored;
       }
 
-pub filling-end : (s old now : List ℕ) (n i : ℕ) → Filling s old now n i → length s ≤ i → (n ≡ length (salvage s)) × (now ≡ listAfter (salvage s) old)
-filling-end s old now n i h z =
+pub filling-end : (s old : List ℕ) (stored : Bool) (now : List ℕ) (n i : ℕ) → Filling s old stored now n i → length s ≤ i → (n ≡ length (salvage s)) × (now ≡ cond stored (listAfter (salvage s) old) old)
+filling-end s old stored now n i h z =
     let t : Written (salvage s) n [] = rw (left-end s i z) at (h .turn) in
     let q : n ≡ length (salvage s) = written-end _ n t in
     (q, rw (q, take-length) at (h .list))

@@ -1,18 +1,15 @@
--- CSEG at a place of the body, letter by letter: the four comparisons of the code, and how far on the next CSEG can stand.
+-- CSEG at a place of the body, letter by letter, and how far on the next CSEG can stand.
 use Prim.Native.Nat.{ℕ, _+_, _≤_, _<_}
 use native.Mathlib.Omega.{arith}
 use native.Mathlib.Decide.{decLt}
 use mathlib.Core.Path.{_≡_, refl, sym, ap, _∙_}
-use mathlib.Core.Bool.{Bool, true, false}
+use mathlib.Core.Bool.{true, false}
 use mathlib.Core.List.{List}
-use lib.Dec.{eqb}
 use lib.ListN.{length, getD, drop, length-drop}
 use lib.Seq.{getD-drop}
-use borrow.Author.Tests.{eqb-true, eqb-false}
-use Rattle.layout.specs.Lists.{same}
-use Rattle.layout.specs.Bytes.{tagAt, tagged}
+use Rattle.layout.specs.Bytes.{tagAt, tagged, four}
 use Rattle.layout.specs.Salvage.{cseg}
-use Rattle.layout.proofs.Numbers.{tag-is}
+use Rattle.layout.proofs.Groups.{cseg-tag}
 use Rattle.salvage.specs.Entries.{Skip, Next}
 use Rattle.salvage.proofs.Cseg.{not-so, cseg-is}
 
@@ -24,7 +21,7 @@ pub record Letters (s : List ℕ) (k : ℕ) : Type 0 where
   pub l₂ : getD s (k + 2) 0 ≡ 69
   pub l₃ : getD s (k + 3) 0 ≡ 71
 
--- CSEG at the start of what is left from k on, and its letters at k: either way
+-- CSEG at the start of what is left from k on: its letters at k
 pub cseg-letters : (k : ℕ) (s : List ℕ) → cseg (drop k s) ≡ true → Letters s k
 cseg-letters k s e =
     let q = cseg-is (drop k s) e in
@@ -37,28 +34,10 @@ cseg-letters k s e =
       l₃ = sym (getD-drop k s 3 0) ∙ ap (λ (t : List ℕ). getD t 3 0) q;
     }
 
-pub letters-cseg : (k : ℕ) (s : List ℕ) → Letters s k → cseg (drop k s) ≡ true
-unfolding cseg tagged tagAt same
-letters-cseg k s l = rw (tag-is s k 67 83 69 71 (l .long) (sym (l .l₀)) (sym (l .l₁)) (sym (l .l₂)) (sym (l .l₃))) refl
-
--- ---- the answers of `is_cseg`
-
-module _ (k : ℕ) (s : List ℕ) where
-  pub unlike₀ : (getD s k 0 ≡ 67 → ⊥) → false ≡ cseg (drop k s)
-  unlike₀ h = sym (not-so _ (λ e. h (cseg-letters k s e .l₀)))
-
-  pub unlike₁ : (getD s (k + 1) 0 ≡ 83 → ⊥) → false ≡ cseg (drop k s)
-  unlike₁ h = sym (not-so _ (λ e. h (cseg-letters k s e .l₁)))
-
-  pub unlike₂ : (getD s (k + 2) 0 ≡ 69 → ⊥) → false ≡ cseg (drop k s)
-  unlike₂ h = sym (not-so _ (λ e. h (cseg-letters k s e .l₂)))
-
-  pub alike : k + 4 ≤ length s → getD s k 0 ≡ 67 → getD s (k + 1) 0 ≡ 83 → getD s (k + 2) 0 ≡ 69 → eqb (getD s (k + 3) 0) 71 ≡ cseg (drop k s)
-  alike l a b c = go (eqb (getD s (k + 3) 0) 71) refl
-    where
-      go : (t : Bool) → eqb (getD s (k + 3) 0) 71 ≡ t → t ≡ cseg (drop k s)
-      go true e = sym (letters-cseg k s (record { long = l; l₀ = a; l₁ = b; l₂ = c; l₃ = eqb-true _ _ e }))
-      go false e = sym (not-so _ (λ h. eqb-false _ _ e (cseg-letters k s h .l₃)))
+-- .. and the tag at k is what is asked for
+pub cseg-tagged : (k : ℕ) (s : List ℕ) → tagged s k (four 0x43534547) ≡ cseg (drop k s)
+unfolding cseg tagged tagAt
+cseg-tagged k s = rw cseg-tag
 
 -- ---- the search
 
