@@ -1,5 +1,3 @@
-pub mod Sixteen
-pub mod RecordBytes
 pub mod Standing
 pub mod PlayLaws
 pub mod Playing

@@ -2,25 +2,23 @@
 -- By induction on the records; that a group's source channels are apart is what the reader's rules say of its Ctabs.
 use Prim.Native.Nat.{ℕ, zero, suc, _+_, _*_, _≤_, _<_}
 use native.Mathlib.Omega.{arith}
-use native.Mathlib.Nat.{add-zero}
 use mathlib.Core.Path.{_≡_, refl, sym, ap, _∙_}
 use mathlib.Core.Logic.{_⊎_, inl, inr, ∥∥₁-elim}
 use mathlib.Core.HLevel.{⊥-prop}
-use mathlib.Core.Bool.{Bool, true, false, cond, _&&_, false≢true}
+use mathlib.Core.Bool.{Bool, true, false, cond, false≢true, and-eq-true-iff}
 use mathlib.Core.List.{List, [], _∷_, map, List·Memᴰ, List·Memᴰ·head, List·Memᴰ·tail, List·Memᴰ·cases-cons, List·Memᴰ·not-nil, Memᴰ·map, Memᴰ·of-map, Sublistᴰ, Sublistᴰ·slnil, Sublistᴰ·cons, Sublistᴰ·cons-cons, List·Nodup, Pairwise·sublistᴰ, nodup-nil, nodup-cons}
-use lib.ListN.{getD, drop}
-use lib.Seq.{getD-take, getD-drop}
+use lib.ListN.{drop}
 use Rattle.layout.specs.Lists.{those, rows}
 use Rattle.layout.specs.Ranges.{firstEdition}
 use Rattle.layout.specs.declared.record.SourceChannel.{SourceChannel}
 use Rattle.layout.specs.declared.record.Record.{Record}
 use Rattle.layout.specs.declared.turn.Run.the-variants.{Ended}
-use Rattle.layout.specs.Records.{recordOf}
 use Rattle.layout.specs.Group.{payload, Group, ctabChannel, recordAt, groupOf}
 use Rattle.layout.specs.Body.{groupPlace, bodyRun, groupValue, groupNo}
 use Rattle.layout.specs.Plays.{bit, rootMask, chordMask, playsUnder, playing}
+use Rattle.layout.proofs.Sixteen.{Channels, group-apart}
+use Rattle.layout.proofs.RecordBytes.{record-channel}
 use Rattle.layout.proofs.Bodies.{body-accepted}
-use Rattle.ask.proofs.Sixteen.{Apart, group-apart}
 
 infix 60 _∈_
 -- a is one of the list
@@ -73,10 +71,6 @@ module _ {A : Type 0} (p : A → Bool) where
 
 -- ---- who plays
 
-both : (a b : Bool) → a && b ≡ true → (a ≡ true) × (b ≡ true)
-both true b h = (refl, h)
-both false b h = absurd (false≢true h)
-
 module _ (g : Group) (root type : ℕ) where
   -- in Ctab order: the channels that are told are those of the group with the others left out
   pub told-in-order : Sublistᴰ (playing g root type) (channelsOf g)
@@ -95,7 +89,7 @@ module _ (g : Group) (root type : ℕ) where
   told-play c m =
       let t = Memᴰ·of-map (λ (x : Record). x .source) (those (playsUnder root type) (g .records)) m in
       let q = those-pass (playsUnder root type) (g .records) (t .0) (t .1) in
-      (t .0, (q .0, (t .2, both _ _ (q .1))))
+      (t .0, (q .0, (t .2, and-eq-true-iff (bit (rootMask (t .0)) root) (bit (chordMask (t .0)) type) .0 (q .1))))
 
   -- each once, where the group's source channels are apart
   pub told-once : List·Nodup (channelsOf g) → List·Nodup (playing g root type)
@@ -136,13 +130,7 @@ unfolding rows
 map-rows h f zero k = refl
 map-rows {A} {B} h f (suc n) k = ap (λ (x : List B). h (f k) ∷ x) (map-rows h f n (suc k))
 
--- a record's source channel is that of its Ctab
-record-channel : (c : List ℕ) (p q m i : ℕ) → recordAt c p q m i .source .0 ≡ ctabChannel firstEdition c p i
-unfolding recordAt recordOf ctabChannel
-record-channel c p q m i =
-    getD-take 26 (drop (p + 35 * i + 8) c) 0 0 (omega arith) ∙ (getD-drop (p + 35 * i + 8) c 0 0 ∙ ap (λ (y : ℕ). getD c y 0) (add-zero (p + 35 * i + 8)))
-
-records-apart : (c : List ℕ) (t n m : ℕ) → Apart c (8 + t) n → List·Nodup (channelsOf (groupOf c t n m))
+records-apart : (c : List ℕ) (t n m : ℕ) → Channels (ctabChannel firstEdition c (8 + t)) n → List·Nodup (channelsOf (groupOf c t n m))
 unfolding groupOf
 records-apart c t n m a =
     rw (map-rows (λ (r : Record). r .source) (recordAt c (8 + t) (8 + t + 35 * n) m) n 0)

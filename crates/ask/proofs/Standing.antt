@@ -3,28 +3,23 @@ use Prim.Native.Nat.{ℕ, zero, suc, _+_, _*_, _≤_, _<_}
 use native.Mathlib.Omega.{arith}
 use mathlib.Core.Path.{_≡_, refl, ap, _∙_}
 use mathlib.Core.Bool.{Bool, true, false, cond}
-use mathlib.Core.List.{List, [], _∷_, _++_, map}
+use mathlib.Core.List.{List, [], _∷_, _++_, map, map-append}
 use lib.ListN.{drop}
 use Rattle.layout.specs.Lists.{those, rows}
 use Rattle.layout.specs.declared.record.Record.{Record}
 use Rattle.layout.specs.declared.turn.Judged.the-variants.{Sound}
 use Rattle.layout.specs.declared.answer.Standing.{Standing}
-use Rattle.layout.specs.Group.{groupAt, groupOf}
+use Rattle.layout.specs.Group.{groupAt, ctabChannel, recordAt}
 use Rattle.layout.specs.Body.{groupPlace, standingAt, standing, groupValue, groupNo}
 use Rattle.layout.specs.Plays.{playsUnder, playing}
+use Rattle.layout.proofs.Lists.{rows-last}
+use Rattle.layout.proofs.Sixteen.{group-sixteen}
+use Rattle.layout.proofs.RecordBytes.{record-channel, record-roots, record-chords, records-there}
 use Rattle.layout.proofs.Bodies.{body-accepted}
 use Rattle.body.proofs.AskLaws.{There}
 use Rattle.ask.specs.PlaysAt.{playsAt, sourceAt, playerAt, playersAt}
-use Rattle.ask.proofs.Sixteen.{group-sixteen}
-use Rattle.ask.proofs.RecordBytes.{recordNo, record-source, record-roots, record-chords}
 
--- ---- a row more, and those that pass among two lists
-
-pub rows-last : {A : Type 0} (f : ℕ → A) (n k : ℕ) → rows f k (suc n) ≡ rows f k n ++ (f (k + n) ∷ [])
-unfolding rows
-rows-last f zero k = let z : k + 0 ≡ k = omega arith in rw z
-rows-last {A} f (suc n) k = let z : suc k + n ≡ k + suc n = omega arith in ap (λ (x : List A). f k ∷ x) (rw z at (rows-last f n (suc k)))
-
+-- those that pass among two lists
 module _ {A : Type 0} (p : A → Bool) where
   pub those-append : (xs ys : List A) → those p (xs ++ ys) ≡ those p xs ++ those p ys
   unfolding those
@@ -34,10 +29,6 @@ module _ {A : Type 0} (p : A → Bool) where
       go : (b : Bool) → p x ≡ b → those p (xs ++ ys) ≡ those p xs ++ those p ys → cond b (x ∷ those p (xs ++ ys)) (those p (xs ++ ys)) ≡ cond b (x ∷ those p xs) (those p xs) ++ those p ys
       go true e more = ap (λ (z : List A). x ∷ z) more
       go false e more = more
-
-pub map-both : {A B : Type 0} (f : A → B) (xs ys : List A) → map f (xs ++ ys) ≡ map f xs ++ map f ys
-map-both f [] ys = refl
-map-both {A} {B} f (x ∷ xs) ys = ap (λ (z : List B). f x ∷ z) (map-both f xs ys)
 
 -- ---- who plays of n records, record number i being what stands at its place
 
@@ -60,24 +51,29 @@ module _ (s : List ℕ) (p root type : ℕ) (f : ℕ → Record) where
   played-rows zero h = refl
   played-rows (suc n) h =
       let z : 0 + n ≡ n = omega arith in
-      let last : rows f 0 (suc n) ≡ rows f 0 n ++ (f n ∷ []) = rw z at (rows-last f n 0) in
+      let last : rows f 0 (suc n) ≡ rows f 0 n ++ (f n ∷ []) = rw z at (rows-last f 0 n) in
       let more = played-rows n (λ i l. h i (omega arith)) in
       ap (λ (x : List Record). map (λ (r : Record). r .source) (those (playsUnder root type) x)) last
       ∙ (ap (λ (x : List Record). map (λ (r : Record). r .source) x) (those-append (playsUnder root type) (rows f 0 n) (f n ∷ []))
-      ∙ (map-both (λ (r : Record). r .source) (those (playsUnder root type) (rows f 0 n)) (those (playsUnder root type) (f n ∷ []))
+      ∙ (map-append (λ (r : Record). r .source) (those (playsUnder root type) (rows f 0 n)) (those (playsUnder root type) (f n ∷ []))
       ∙ rw (more, alone n (h n (omega arith)))))
 
 -- ---- the group's value
 
 module _ (s : List ℕ) (at t n m : ℕ) (sound : groupAt (drop at s) ≡ Sound t n m) where
-  record-stands : (root type i : ℕ) → i < n → Stands s (at + 16 + t) root type (recordNo s at t n m) i
-  unfolding playsUnder playsAt
-  record-stands root type i h = (record-source s at t n m sound i h, rw (record-roots s at t n m sound i h, record-chords s at t n m sound i h))
+  -- the records that stand in the body
+  abbrev row : ℕ → Record
+  row = recordAt s (at + 16 + t) (at + 16 + t + 35 * n) m
+
+  record-stands : (root type i : ℕ) → Stands s (at + 16 + t) root type row i
+  unfolding playsUnder playsAt sourceAt ctabChannel
+  record-stands root type i =
+      (ap (λ (v : ℕ). record { 0 = v }) (record-channel s (at + 16 + t) (at + 16 + t + 35 * n) m i), rw (record-roots s (at + 16 + t) (at + 16 + t + 35 * n) m i, record-chords s (at + 16 + t) (at + 16 + t + 35 * n) m i))
 
   -- who plays in the group's value is who plays by the bytes
   pub playing-stands : (root type : ℕ) → playing (groupValue (drop at s) (groupAt (drop at s))) root type ≡ playersAt s (at + 16 + t) root type n
-  unfolding playing groupValue groupOf
-  playing-stands root type = rw (sound, groupValue) (played-rows s (at + 16 + t) root type (recordNo s at t n m) n (λ i h. record-stands root type i h))
+  unfolding playing
+  playing-stands root type = rw (records-there s at t n m sound) (played-rows s (at + 16 + t) root type row n (λ i h. record-stands root type i))
 
 -- ---- a group that was found
 

@@ -13,10 +13,9 @@ use Rattle.layout.specs.Answers.{Answer, refused, granted, numberOf, placeOf, v
 use Rattle.layout.specs.Group.{recordAt}
 use Rattle.layout.specs.Body.{recordsRead}
 use Rattle.layout.specs.Promises.{RecordsRead}
-use Rattle.ask.proofs.Standing.{rows-last}
+use Rattle.layout.proofs.Lists.{rows-length, rows-last}
 use Rattle.table.specs.declared.Reading.{Reading}
 use Rattle.table.specs.Reading.{toldOf, ReadingPlanned}
-use Rattle.table.proofs.Moved.{rows-length}
 
 -- ---- n stores into ys, of f 0, f 1, ..
 
@@ -32,14 +31,14 @@ module _ {A : Type 0} (f : ℕ → A) where
   pub filled-next : (n : ℕ) (ys : List A) → n < length ys → set (filled n ys) n (f n) ≡ filled (n + 1) ys
   filled-next n ys l =
       let z : 0 + n ≡ n = omega arith in
-      let last : rows f 0 (suc n) ≡ rows f 0 n ++ (f n ∷ []) = rw z at (rows-last f n 0) in
+      let last : rows f 0 (suc n) ≡ rows f 0 n ++ (f n ∷ []) = rw z at (rows-last f 0 n) in
       ap (λ (x : List A). set (rows f 0 n ++ x) n (f n)) (drop-cons ys n (f n) l)
-      ∙ (set-at (rows f 0 n) (getD ys n (f n)) (drop (suc n) ys) (f n) n (rows-length f n)
+      ∙ (set-at (rows f 0 n) (getD ys n (f n)) (drop (suc n) ys) (f n) n (rows-length f 0 n)
       ∙ (sym (append-snoc (rows f 0 n) (f n) (drop (suc n) ys))
       ∙ (ap (λ (x : List A). x ++ drop (suc n) ys) (sym last) ∙ ap (λ (k : ℕ). filled k ys) (sym (add-one n)))))
 
   pub filled-length : (n : ℕ) (ys : List A) → n ≤ length ys → length (filled n ys) ≡ length ys
-  filled-length n ys l = length-append (rows f 0 n) (drop n ys) ∙ omega (arith, rows-length f n, length-drop n ys)
+  filled-length n ys l = length-append (rows f 0 n) (drop n ys) ∙ omega (arith, rows-length f 0 n, length-drop n ys)
 
 -- ---- a plan carried out
 
@@ -50,17 +49,17 @@ planned s p i = recordAt s (p .ctabs) (p .cntts) (p .seconds) i
 lent : (f : ℕ → Record) (n : ℕ) (ys : List Record) (a : Answer (List Record)) → valueOr [] a ≡ rows f 0 n → filled f n ys ≡ lentAfter a ys
 unfolding valueOr lentAfter
 lent f n ys (refused number place) e =
-    let z : 0 ≡ n = ap length e ∙ rows-length f n in
+    let z : 0 ≡ n = ap length e ∙ rows-length f 0 n in
     rw (← z) (sym (filled-none f ys))
 lent f n ys (granted xs) e =
-    let z : length xs ≡ n = ap length e ∙ rows-length f n in
+    let z : length xs ≡ n = ap length e ∙ rows-length f 0 n in
     rw (z, e)
 
 pub records-read : (s : List ℕ) (g : ℕ) (ys : List Record) (p : Reading) (r : Counted) → ReadingPlanned s g (length ys) p → r ≡ toldOf p → RecordsRead s g ys r (filled (planned s p) (p .count) ys)
 unfolding countedAll
 records-read s g ys p r h e =
     let a = recordsRead s g (length ys) in
-    let n : p .count ≡ length (valueOr [] a) = sym (ap length (h .records) ∙ rows-length (planned s p) (p .count)) in
+    let n : p .count ≡ length (valueOr [] a) = sym (ap length (h .records) ∙ rows-length (planned s p) 0 (p .count)) in
     record {
       answer =
           e

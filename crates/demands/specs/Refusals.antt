@@ -18,9 +18,10 @@ use Rattle.layout.specs.declared.answer.Channelled.{Channelled}
 use Rattle.layout.specs.declared.answer.Played.{Played}
 use Rattle.layout.specs.declared.answer.Placed.{Placed}
 use Rattle.layout.specs.declared.answer.Changed.{Changed}
+use Rattle.layout.specs.Lists.{All}
 use Rattle.layout.specs.Salvage.{Entry, salvage}
 use Rattle.layout.specs.Promises.{CasmFound, BodyRead, GroupFound, PartFound, ChannelFound, RecordsRead, VoiceFound, PlaysTold, NotePlaced, GroupWritten, RecordEdited, FieldSet, FieldSetInPlace, Salvaged}
-use Rattle.laws.specs.Salvage.{All, bytesOf}
+use Rattle.laws.specs.Salvage.{bytesOf}
 use Rattle.refusals.specs.Given.{GivenUnder}
 use Rattle.refusals.specs.File.{FileRefused}
 use Rattle.refusals.specs.Body.{BodyRefused}

@@ -5,10 +5,11 @@ use mathlib.Core.Logic.{_↔_}
 use mathlib.Core.List.{List, [], _∷_, _++_, map, flatten}
 use lib.ListN.{length, set}
 use Rattle.layout.specs.declared.answer.Counted.{Counted}
+use Rattle.layout.specs.Lists.{All}
 use Rattle.layout.specs.Body.{bodyLimit}
 use Rattle.layout.specs.Salvage.{Entry, salvage}
 use Rattle.layout.specs.Promises.{Salvaged}
-use Rattle.laws.specs.Salvage.{All, Covers, bytesOf, ReadsAsOne, GroupsBody, NoneCompleted, groupsFrom, moved, movedByChange, Listed}
+use Rattle.laws.specs.Salvage.{Covers, bytesOf, ReadsAsOne, GroupsBody, NoneCompleted, groupsFrom, moved, movedByChange, Listed}
 use Rattle.demands.specs.Examples.{M, N, entry}
 
 -- ---- "Take a section body of sound groups .. Put other bytes, of any number, in place of one group"

@@ -1,15 +1,17 @@
 -- A flat table as the records that it lends.
-use Prim.Native.Nat.{ℕ, zero, suc, _+_, _-_, _*_, _≤_}
+use Prim.Native.Nat.{ℕ, _+_, _-_, _*_, _≤_}
 use native.Mathlib.Omega.{arith}
-use mathlib.Core.Path.{_≡_, refl, ap, subst, _∙_}
-use mathlib.Core.List.{List, _∷_, _++_}
+use mathlib.Core.Path.{_≡_, ap, subst, _∙_}
+use mathlib.Core.List.{List}
 use lib.ListN.{length, getD, take, drop}
+use lib.Seq.{take-at}
 use Rattle.layout.specs.Lists.{rows}
 use Rattle.layout.specs.Records.{recordOf}
 use Rattle.layout.specs.Promises.{GroupWritten}
 use Rattle.layout.specs.declared.record.SecondTable.{SecondTable}
 use Rattle.layout.specs.declared.record.Record.{Record}
 use Rattle.layout.specs.declared.answer.Measured.{Measured}
+use Rattle.layout.proofs.Lists.{rows-length}
 use Rattle.casm.proofs.RecordLaws.{filled}
 use Rattle.export.specs.Crossing.{secondOf}
 use Rattle.export.specs.Flat.{lentRows, recordIn, flatRecord, tableOf}
@@ -22,12 +24,6 @@ pub record-at-is : (flat : List ℕ) (i : ℕ) (r : Record) → r ≡ recordIn (
 unfolding flatRecord
 record-at-is flat i r h = let z : 28 * i + 28 - 28 * i ≡ 28 = omega arith in rw z at h
 
--- the first n of a table that n records were stored into
-pub first-filled : {A : Type 0} (f : ℕ → A) (n k : ℕ) (ys : List A) → take n (rows f k n ++ ys) ≡ rows f k n
-unfolding rows
-first-filled f zero k ys = refl
-first-filled {A} f (suc n) k ys = ap {B = List A} (λ r. f k ∷ r) (first-filled f n (suc k) ys)
-
 pub rows-lent : (n size : ℕ) → n ≡ lentRows size → (n ≤ 32) × (28 * n ≤ size)
 rows-lent n size e = (omega (arith, e), omega (arith, e))
 
@@ -38,8 +34,8 @@ pub written-from : (text flat : List ℕ) (records : List Record) (n count : ℕ
 written-from text flat records n count before after r e h p =
     subst (λ (t : List Record). GroupWritten text t count before r after) (h ∙ ap (rows (flatRecord flat) 0) e) p
 
--- .. so all n are there when the last is stored
+-- all n are there when the last is stored
 pub all-filled : {A : Type 0} (f : ℕ → A) (n i : ℕ) (t ys : List A) → t ≡ filled f i ys → i ≤ n → n ≤ i → take n t ≡ rows f 0 n
 all-filled f n i t ys e l g =
     let z : i ≡ n = omega arith in
-    ap (take n) (e ∙ ap (λ (m : ℕ). filled f m ys) z) ∙ first-filled f n 0 (drop n ys)
+    ap (take n) (e ∙ ap (λ (m : ℕ). filled f m ys) z) ∙ take-at (rows f 0 n) (drop n ys) n (rows-length f 0 n)

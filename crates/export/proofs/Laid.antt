@@ -4,7 +4,7 @@ use native.Mathlib.Omega.{arith}
 use native.Mathlib.Numerals.{add-one}
 use mathlib.Core.Path.{_≡_, refl, sym, ap, subst, _∙_}
 use mathlib.Core.Bool.{Bool, true, false, cond}
-use mathlib.Core.List.{List, [], _∷_, _++_, append-assoc, append-nil, flatMap}
+use mathlib.Core.List.{List, [], _∷_, _++_, append-assoc, flatMap}
 use lib.Dec.{ltb, leb}
 use lib.ListN.{length, getD, set, take, drop, length-append, length-drop}
 use lib.Seq.{drop-cons, set-at, append-snoc, take-suc, take-take, take-at, length-take-le}
@@ -19,6 +19,8 @@ use Rattle.layout.specs.Body.{ofGroup, recordsRead, bodyRun, groupNo}
 use Rattle.layout.specs.Promises.{RecordsRead}
 use Rattle.layout.specs.declared.record.Record.{Record}
 use Rattle.layout.specs.declared.answer.Counted.{Counted}
+use Rattle.layout.proofs.Lists.{flatMap-last}
+use Rattle.layout.proofs.Records.{bytes-length}
 use Rattle.write.proofs.Tails.{tail-written}
 use Rattle.export.specs.declared.answer.Row.{Row}
 use Rattle.export.specs.Crossing.{hasOf, valueOf, rowOf}
@@ -41,10 +43,6 @@ stored-twice b old h s e l =
     ∙ (set-at (b ++ (h ∷ [])) (getD old 27 0) (drop 28 old) s 27 (length-append b (h ∷ []) ∙ omega (arith, e))
     ∙ (append-snoc b h (s ∷ drop 28 old) ∙ sym (append-assoc b (h ∷ s ∷ []) (drop 28 old)))))))
 
-bytes-length : (r : Record) → length (bytesOf r) ≡ 26
-unfolding bytesOf
-bytes-length r = refl
-
 stored-of : (r : Record) (old : List ℕ) → 28 ≤ length old
     → set (set (rowOf r .bytes ++ drop 26 old) 26 (rowOf r .has)) 27 (rowOf r .second) ≡ rowBytes r ++ drop 28 old
 unfolding rowOf rowBytes
@@ -64,11 +62,6 @@ row-stored r row xs old e l q =
     ∙ (ap (λ (x : Row). set (set (x .bytes ++ drop 26 old) 26 (x .has)) 27 (x .second)) e ∙ stored-of r old l)
 
 -- ---- one behind the other
-
-flatMap-append : (f : Record → List ℕ) (xs ys : List Record) → flatMap f (xs ++ ys) ≡ flatMap f xs ++ flatMap f ys
-unfolding flatMap
-flatMap-append f [] ys = refl
-flatMap-append f (x ∷ xs) ys = rw (flatMap-append f xs ys, append-assoc)
 
 rows-long : (rs : List Record) → length (flatMap rowBytes rs) ≡ 28 * length rs
 unfolding flatMap
@@ -91,10 +84,6 @@ laid-length table i old out l h e =
     ap length e
     ∙ (length-append (flatMap rowBytes (take i table)) (drop (28 * i) old) ∙ omega (arith, first-long table i l, length-drop (28 * i) old, h))
 
-one-row : (r : Record) → flatMap rowBytes (r ∷ []) ≡ rowBytes r ++ []
-unfolding flatMap
-one-row r = refl
-
 pub laid-next : (table : List Record) (i : ℕ) (d : Record) (old out ys : List ℕ) → i < length table → 28 * i + 28 ≤ length old → out ≡ laid table i old
     → ys ≡ rowBytes (getD table i d) ++ drop 28 (midOf (28 * i) (length out - 28 * i) out)
     → putMid (28 * i) (length out - 28 * i) out ys ≡ laid table (i + 1) old
@@ -103,13 +92,12 @@ laid-next table i d old out ys l h q w =
     let r = getD table i d in
     let long : length out ≡ length old = laid-length table i old out (omega (arith, l)) (omega (arith, h)) q in
     let z : i + 1 ≡ suc i = add-one i in
-    let more : flatMap rowBytes (take (suc i) table) ≡ hs ++ (rowBytes r ++ []) =
-    ap (flatMap rowBytes) (take-suc table i d l) ∙ (flatMap-append rowBytes (take i table) (r ∷ []) ∙ ap (λ (t : List ℕ). hs ++ t) (one-row r)) in
+    let more : flatMap rowBytes (take (suc i) table) ≡ hs ++ rowBytes r = ap (flatMap rowBytes) (take-suc table i d l) ∙ flatMap-last rowBytes (take i table) r in
     let y : 28 * i + 28 ≡ 28 * (i + 1) = omega arith in
     tail-written hs old out (28 * i) (first-long table i (omega (arith, l))) (omega (arith, long, h)) q (rowBytes r) ys 28 (row-length r) w
     ∙ (ap (λ (k : ℕ). hs ++ (rowBytes r ++ drop k old)) y
     ∙ (sym (append-assoc hs (rowBytes r) (drop (28 * (i + 1)) old))
-    ∙ ap (λ (t : List ℕ). t ++ drop (28 * (i + 1)) old) (ap (λ (t : List ℕ). hs ++ t) (sym (append-nil (rowBytes r))) ∙ (sym more ∙ ap (λ (k : ℕ). flatMap rowBytes (take k table)) (sym z)))))
+    ∙ ap (λ (t : List ℕ). t ++ drop (28 * (i + 1)) old) (sym more ∙ ap (λ (k : ℕ). flatMap rowBytes (take k table)) (sym z))))
 
 pub laid-last : (table : List Record) (n i : ℕ) (old out : List ℕ) → out ≡ laid table i old → i ≤ n → n ≤ i → out ≡ laid table n old
 laid-last table n i old out e l g = let z : i ≡ n = omega arith in e ∙ ap (λ (k : ℕ). laid table k old) z

@@ -2,14 +2,14 @@
 use Prim.Native.Nat.{ℕ, _+_}
 use native.Mathlib.Nat.{zero-add}
 use mathlib.Core.Path.{_≡_, refl}
-use mathlib.Core.List.{List, [], _∷_, _++_, map, append-assoc, append-nil, flatten}
+use mathlib.Core.List.{List, [], _∷_, _++_, map, map-append, append-assoc, append-nil, flatten}
 use lib.ListN.{length}
 use Rattle.layout.specs.Salvage.{parts, Entry, entriesFrom, salvage}
-use Rattle.salvage.proofs.Each.{All}
+use Rattle.layout.specs.Lists.{All}
 use Rattle.salvage.proofs.Cseg.{Apart, opens-first, opens-apart, apart-right}
 use Rattle.salvage.proofs.Parts.{parts-nil, parts-seam, parts-group}
 use Rattle.laws.specs.Salvage.{GroupsBody, NoneCompleted, groupsFrom, moved, movedByChange}
-use Rattle.laws.proofs.Elements.{all-split, map-append}
+use Rattle.laws.proofs.Elements.{all-split}
 use Rattle.laws.proofs.Joined.{own, joined-groups, parts-joined}
 use Rattle.laws.proofs.Places.{entries-append, entries-groups, entries-moved, entries-changed}
 use Rattle.laws.proofs.Starts.{Lone, lone-first, groups-open, body-groups, none-apart}

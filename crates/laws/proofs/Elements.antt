@@ -1,7 +1,6 @@
 -- What holds of each element: of joined lists, of lists made element by element, and where one thing follows from another.
-use mathlib.Core.Path.{_≡_, refl}
-use mathlib.Core.List.{List, [], _∷_, _++_, map, flatMap}
-use Rattle.salvage.proofs.Each.{All}
+use mathlib.Core.List.{List, [], _∷_, _++_, flatMap}
+use Rattle.layout.specs.Lists.{All}
 
 pub all-append {ℓ} : {A : Type ℓ} (P : A → Type 0) (xs ys : List A) → All P xs → All P ys → All P (xs ++ ys)
 all-append P [] ys h k = k
@@ -19,7 +18,3 @@ all-flatMap P Q f g (x ∷ xs) h = all-append Q (f x) (flatMap f xs) (g x (h .0)
 pub all-so {ℓ} : {A : Type ℓ} (P Q : A → Type 0) → ((x : A) → P x → Q x) → (xs : List A) → All P xs → All Q xs
 all-so P Q f [] h = tt
 all-so P Q f (x ∷ xs) h = (f x (h .0), all-so P Q f xs (h .1))
-
-pub map-append {ℓ κ} : {A : Type ℓ} {B : Type κ} (f : A → B) (xs ys : List A) → map f (xs ++ ys) ≡ map f xs ++ map f ys
-map-append f [] ys = refl
-map-append f (x ∷ xs) ys = rw (map-append f xs ys)

@@ -11,7 +11,7 @@ use Rattle.layout.specs.declared.turn.Judged.{Judged}
 use Rattle.layout.specs.declared.turn.Judged.the-variants.{Unsound, Sound}
 use Rattle.layout.specs.Group.{groupSize, groupAt}
 use Rattle.layout.specs.Salvage.{front, pieces, Part, rest, listed, judged, parts, Entry, entriesFrom, salvage}
-use Rattle.salvage.proofs.Each.{All}
+use Rattle.layout.specs.Lists.{All}
 use Rattle.salvage.proofs.Cseg.{Free, Piece, no-true, no-cseg}
 use Rattle.salvage.proofs.Cut.{front-is-free, pieces-are}
 use Rattle.salvage.proofs.Verdicts.{size-some, size-within, sound-cseg, size-own, sound-own, refusal-some}
@@ -49,7 +49,7 @@ taken-group p t n m e =
     record { text = t; ctabs = n; cntts = m; sound = rw append-nil at (sound-own p [] t n m e); whole = rw (l, z) }
 
 -- past its start a piece has no CSEG
-dropped-free : (p : List ℕ) → Piece p → (n : ℕ) → 0 < n → Free (drop n p)
+pub dropped-free : (p : List ℕ) → Piece p → (n : ℕ) → 0 < n → Free (drop n p)
 dropped-free p c zero h k = absurd (not-suc-le-zero h)
 dropped-free p c (suc n) h k = rw (drop-drop, suc-add) (c .only (n + k))
 

@@ -7,7 +7,7 @@ use mathlib.Core.List.{List, [], _∷_, _++_, map, flatten, append-assoc}
 use lib.ListN.{length, length-append}
 use lib.Seq.{drop-append-seam, take-append-seam}
 use Rattle.layout.specs.Salvage.{Part, Entry, entriesFrom}
-use Rattle.salvage.proofs.Each.{All}
+use Rattle.layout.specs.Lists.{All}
 use Rattle.laws.specs.Salvage.{Covers, bytesOf, groupsFrom, moved, movedByChange}
 use Rattle.laws.proofs.Joined.{joined, own}
 

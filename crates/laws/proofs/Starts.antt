@@ -12,7 +12,7 @@ use lib.ListN.{length, drop, length-drop, drop-of-length-le}
 use lib.Seq.{drop-nil, drop-append-add, drop-append-le, take-append-le}
 use Rattle.layout.specs.Bytes.{tagAt, tagged}
 use Rattle.layout.specs.Salvage.{cseg}
-use Rattle.salvage.proofs.Each.{All}
+use Rattle.layout.specs.Lists.{All}
 use Rattle.salvage.proofs.Cseg.{Apart, Opens, no-true, not-so, no-cseg, cseg-is, cseg-more-at, opens-first, opens-apart}
 use Rattle.salvage.proofs.Verdicts.{sound-cseg}
 use Rattle.laws.specs.Salvage.{SoundGroup, StartsAt, GroupsBody, NoneCompleted}

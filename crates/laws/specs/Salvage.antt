@@ -11,7 +11,7 @@ use Rattle.layout.specs.declared.turn.Run.the-variants.{Ended}
 use Rattle.layout.specs.Group.{groupSize, groupAt}
 use Rattle.layout.specs.Body.{bodyRun}
 use Rattle.layout.specs.Salvage.{cseg, Entry, listNumbers}
-pub use Rattle.salvage.proofs.Each.{All}
+use Rattle.layout.specs.Lists.{All}
 
 -- ---- every list
 

@@ -28,7 +28,8 @@ pub tagged-drop : (s tag : List ℕ) (a b : ℕ) → tagged (drop a s) b tag ≡
 unfolding tagged tagAt
 tagged-drop s tag a b = rw drop-drop
 
-shifted : (n a k : ℕ) → a ≤ n → ltb (n - a) k ≡ ltb n (a + k)
+-- less is left after a bytes
+pub shifted : (n a k : ℕ) → a ≤ n → ltb (n - a) k ≡ ltb n (a + k)
 shifted n a k h = go (decLt n (a + k))
   where
     go : Dec (n < a + k) → ltb (n - a) k ≡ ltb n (a + k)

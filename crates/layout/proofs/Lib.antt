@@ -1,10 +1,17 @@
 pub mod Scans
 pub mod Pigeonhole
 pub mod Same
+pub mod Lists
 pub mod Numbers
+pub mod Replaced
+pub mod Texts
 pub mod Heads
 pub mod Outs
+pub mod Records
+pub mod Seen
 pub mod Ctabs
 pub mod Cntts
 pub mod Groups
+pub mod Sixteen
+pub mod RecordBytes
 pub mod Bodies

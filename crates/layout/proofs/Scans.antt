@@ -1,6 +1,6 @@
 -- The cases of `first` and `run`: here, next, and the end.
 use Prim.Native.Nat.{ℕ, zero, suc, _+_, _-_, _<_, _≤_}
-use mathlib.Core.Path.{_≡_, refl, sym, _∙_}
+use mathlib.Core.Path.{_≡_, refl, sym, ap, _∙_}
 use native.Mathlib.Decide.{decLt}
 use native.Mathlib.Numerals.{add-one}
 use native.Mathlib.Omega.{arith}
@@ -139,6 +139,17 @@ module _ (p : ℕ → Bool) where
         go (yes l) d = absurd (false≢true (sym (f (first p 0 n) l) ∙ first-stands (omega arith)))
         go (no l) (yes m) = absurd (false≢true (sym (first-passed k m) ∙ t))
         go (no l) (no m) = omega arith
+
+-- ---- it is found by what the test says of the places looked at
+
+of-alike : (p q : ℕ → Bool) (n k : ℕ) → ((i : ℕ) → i < k + n → p i ≡ q i) → firstOf p k n ≡ firstOf q k n
+unfolding firstOf
+of-alike p q zero k h = refl
+of-alike p q (suc n) k h = rw (h k (omega arith)) (ap (λ (x : ℕ). cond (q k) k x) (of-alike p q n (suc k) (λ i l. h i (omega arith))))
+
+pub first-alike : (p q : ℕ → Bool) (n : ℕ) → ((i : ℕ) → i < n → p i ≡ q i) → first p 0 n ≡ first q 0 n
+unfolding first
+first-alike p q n h = let z : n - 0 ≡ n = omega arith in rw z (of-alike p q n 0 (λ i l. h i (omega arith)))
 
 -- ---- what holds at every turn of a run, and so where it stops or ends
 

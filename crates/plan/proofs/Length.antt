@@ -1,30 +1,21 @@
 -- The length so far is within what a place can hold, however many records there are.
 use Prim.Native.Nat.{ℕ, zero, suc, _+_, _*_, _≤_, _<_}
 use mathlib.Core.Path.{_≡_, refl}
-use mathlib.Core.Bool.{Bool, true, false, cond, not, _&&_}
+use mathlib.Core.Bool.{Bool, true, false, cond, not}
 use mathlib.Core.List.{List}
 use native.Mathlib.Omega.{arith}
 use native.Mathlib.Numerals.{add-one}
-use lib.Dec.{ltb, leb, eqb}
+use lib.Dec.{ltb, eqb}
 use lib.ListN.{length, getD, set, replicate}
-use borrow.Author.Tests.{leb-true, ltb-false}
+use borrow.Author.Tests.{ltb-false}
 use Rattle.layout.specs.declared.record.Record.{Record}
 use Rattle.layout.specs.Records.{blank, channelOf, firstBad}
-use Rattle.layout.specs.Ranges.{firstEdition, inside}
+use Rattle.layout.specs.Ranges.{firstEdition}
 use Rattle.layout.specs.Sdec.{soundText}
+use Rattle.layout.proofs.Texts.{text-most}
 use Rattle.plan.specs.declared.Checked.{Checked}
 use Rattle.plan.specs.Checking.{refusedAt, begun, chunksSize, looked, lookedAt}
 use Rattle.plan.proofs.Looking.{size-most}
-
--- a sound text is at most 255 bytes
-pub text-most : (t : List ℕ) → soundText t ≡ true → length t ≤ 255
-unfolding soundText inside
-text-most t e = go (leb 1 (length t)) (leb (length t) 255) _ refl e
-  where
-    go : (a b d : Bool) → leb (length t) 255 ≡ b → (a && b) && d ≡ true → length t ≤ 255
-    go true true d f q = leb-true (length t) 255 f
-    go true false d f q = absurd (let z : _≡_ {A = ℕ} 0 1 = cc in omega arith)
-    go false b d f q = absurd (let z : _≡_ {A = ℕ} 0 1 = cc in omega arith)
 
 begun-most : (text : List ℕ) (lent count : ℕ) → begun text lent count .length ≤ 271
 unfolding begun refusedAt

@@ -1,10 +1,9 @@
 -- What may be written: one law for each way out.
 use Prim.Native.Nat.{ℕ, _+_, _*_, _-_, _≤_, _<_}
 use mathlib.Core.Path.{_≡_, refl, sym, _∙_, ap}
-use mathlib.Core.Bool.{Bool, true, false, cond, _||_, _&&_}
+use mathlib.Core.Bool.{true, false, cond}
 use mathlib.Core.List.{List, _++_}
 use native.Mathlib.Omega.{arith}
-use lib.Dec.{eqb}
 use lib.ListN.{length, getD, set, drop, replicate}
 use borrow.Author.Tests.{eq-eqb, ne-eqb, lt-ltb, le-ltb}
 use Rattle.layout.specs.declared.record.Record.{Record}
@@ -12,11 +11,10 @@ use Rattle.layout.specs.declared.record.SecondTable.{SecondTable}
 use Rattle.layout.specs.declared.record.SecondTable.the-variants.{Absent, Value}
 use Rattle.layout.specs.Bytes.{CSEG, Sdec, four, chunk}
 use Rattle.layout.specs.Edit.{replaced}
-use Rattle.layout.specs.Ranges.{firstEdition, ranges, outOf}
-use Rattle.layout.specs.Records.{channelOf, bytesOf, badByte, badSecond, firstBad}
+use Rattle.layout.specs.Ranges.{firstEdition}
+use Rattle.layout.specs.Records.{channelOf, firstBad}
 use Rattle.layout.specs.Sdec.{soundText}
-use Rattle.layout.proofs.Scans.{first-passed}
-use Rattle.layout.proofs.Outs.{highs, in-range}
+use Rattle.layout.proofs.Records.{ranged, ranged-channel}
 use Rattle.plan.specs.declared.Checked.{Checked}
 use Rattle.plan.specs.declared.Plan.{Plan}
 use Rattle.plan.specs.Checking.{refusedAt, begun, chunksSize, looked, noPlan, planned, startPlace, startBytes}
@@ -37,15 +35,7 @@ module _ (text : List ℕ) (lent count : ℕ) where
 
 -- a record with no bad byte has a source channel below sixteen
 pub channel-low : (r : Record) (k : ℕ) → k ≡ firstBad firstEdition r → 26 ≤ k → channelOf r < 16
-unfolding firstBad badByte bytesOf channelOf highs ranges
-channel-low r k e h =
-    let none = first-passed (badByte firstEdition r) 26 0 (omega arith) in
-    let low : r .source .0 ≤ 15 = in-range 0 (r .source .0) (left (outOf ranges 0 (r .source .0)) (eqb 0 21 && badSecond (r .second)) none) in
-    omega arith
-  where
-    left : (a b : Bool) → a || b ≡ false → a ≡ false
-    left false b e = refl
-    left true b e = e
+channel-low r k e h = ranged-channel r (ranged r (rw (← e) h))
 
 -- a record's chunks are at most 45 bytes
 pub size-most : (second : SecondTable) → chunksSize second ≤ 45

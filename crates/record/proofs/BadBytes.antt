@@ -1,8 +1,8 @@
 -- The first bad byte of a record in memory, from the first byte out of its range: a byte other than 21 is bad exactly where it is out of its range,
 -- and so is byte 21 where the Cntt value is none or sound.
 use Prim.Native.Nat.{ℕ, _+_, _≤_, _<_}
-use mathlib.Core.Path.{_≡_, refl, _∙_}
-use mathlib.Core.Bool.{Bool, true, false, _&&_, _||_}
+use mathlib.Core.Path.{_≡_, _∙_}
+use mathlib.Core.Bool.{Bool, true, false, and-false, or-true, or-false}
 use native.Mathlib.Omega.{arith}
 use native.Mathlib.Decide.{decLt}
 use lib.Dec.{eqb}
@@ -14,18 +14,7 @@ use Rattle.layout.specs.declared.record.Record.{Record}
 use Rattle.layout.specs.Records.{bytesOf, badSecond, badByte, firstBad}
 use Rattle.layout.proofs.Scans.{first-passed, first-within, first-stands, first-none, first-is}
 use Rattle.layout.proofs.Outs.{highs, in-range}
-
-or-same : (b : Bool) → b || false ≡ b
-or-same true = refl
-or-same false = refl
-
-or-true : (b : Bool) → b || true ≡ true
-or-true true = refl
-or-true false = refl
-
-and-false : (b : Bool) → b && false ≡ false
-and-false true = refl
-and-false false = refl
+use Rattle.layout.proofs.Records.{ranged}
 
 module _ (r : Record) where
   -- byte k is out of its range, as `firstOut` from place 0 asks
@@ -37,11 +26,11 @@ module _ (r : Record) where
 
   away : (k : ℕ) → (k ≡ 21 → ⊥) → badByte firstEdition r k ≡ out k
   unfolding badByte
-  away k n = rw (from-start k, ne-eqb k 21 n) (or-same (outOf ranges k (getD (bytesOf r) k 0)))
+  away k n = rw (from-start k, ne-eqb k 21 n) (or-false (outOf ranges k (getD (bytesOf r) k 0)))
 
   sound : badSecond (r .second) ≡ false → (k : ℕ) → badByte firstEdition r k ≡ out k
   unfolding badByte
-  sound e k = rw (from-start k, e, and-false (eqb k 21)) (or-same (outOf ranges k (getD (bytesOf r) k 0)))
+  sound e k = rw (from-start k, e, and-false (eqb k 21)) (or-false (outOf ranges k (getD (bytesOf r) k 0)))
 
   module _ (k : ℕ) (e : k ≡ firstOut ranges (bytesOf r) 0 26) where
     is-first : k ≡ first out 0 26
@@ -80,9 +69,4 @@ module _ (r : Record) where
 
 -- every byte of a record with no bad byte is in its range
 pub in-its-range : (r : Record) (k : ℕ) → 26 ≤ firstBad firstEdition r → k < 26 → getD (bytesOf r) k 0 ≤ getD highs k 0
-unfolding firstBad badByte
-in-its-range r k h l = in-range k (getD (bytesOf r) k 0) (go (outOf ranges k (getD (bytesOf r) k 0)) (first-passed (badByte firstEdition r) 26 k (omega arith)))
-  where
-    go : (b : Bool) → b || (eqb k 21 && badSecond (r .second)) ≡ false → b ≡ false
-    go true q = q
-    go false q = refl
+in-its-range r k h l = in-range k (getD (bytesOf r) k 0) (ranged r h k l)

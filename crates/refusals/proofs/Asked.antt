@@ -28,7 +28,7 @@ use Rattle.refusals.specs.After.{HasGroup, GroupAsked, of-body, no-group
 use Rattle.refusals.specs.After.{PlayersAsked, players-of-body, root-over, type-over, no-players, ChannelAsked, channel-of-group, no-channel, HasChannel, EditAsked, edit-of-channel, other-source, new-byte}
 use Rattle.refusals.proofs.Told.{RunTold, AnswerTold, if-told, after-told}
 use Rattle.refusals.proofs.Heads.{first-such}
-use Rattle.refusals.proofs.Ctabs.{ctab-seen, ctab-unseen}
+use Rattle.layout.proofs.Seen.{ctab-seen, ctab-unseen}
 use Rattle.refusals.proofs.Bodies.{body-told, has-groups}
 
 -- ---- after the body

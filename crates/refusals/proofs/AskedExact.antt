@@ -1,7 +1,7 @@
 -- A question is refused wherever the condition of a row holds.
 use Prim.Native.Nat.{ℕ, _+_, _<_}
 use mathlib.Core.Path.{_≡_, refl, _∙_}
-use mathlib.Core.Bool.{Bool, true, false, _||_}
+use mathlib.Core.Bool.{Bool, true, false, or-true}
 use mathlib.Core.List.{List}
 use native.Mathlib.Omega.{arith}
 use lib.Dec.{leb}
@@ -24,10 +24,6 @@ use Rattle.refusals.specs.After.{HasGroup, GroupAsked, of-body, no-group
 use Rattle.refusals.specs.After.{PlayersAsked, players-of-body, root-over, type-over, no-players, ChannelAsked, channel-of-group, no-channel, HasChannel, EditAsked, edit-of-channel, other-source, new-byte}
 use Rattle.refusals.proofs.CtabsExact.{ctab-has, ctab-has-not}
 use Rattle.refusals.proofs.BodyExact.{body-answers, body-ended}
-
-pub or-true : (b : Bool) → b || true ≡ true
-or-true true = refl
-or-true false = refl
 
 module _ (s : List ℕ) where
   pub body-read-answers : (number place : ℕ) → BodyRefused s number place → bodyRead s ≡ refused number place

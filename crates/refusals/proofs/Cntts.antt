@@ -12,23 +12,13 @@ use Rattle.layout.specs.declared.turn.Turn.the-variants.{More}
 use Rattle.layout.specs.Bytes.{word, tagAt, Cntt}
 use Rattle.layout.specs.Ranges.{firstEdition, ranges, outOf, cnttValue}
 use Rattle.layout.specs.Group.{headFault, ctabOf, cnttChannel, cnttOf, outOfOrder, cnttFault, cnttAt, cnttTurn, cnttsOf}
-use Rattle.layout.proofs.Scans.{first-passed, first-stands}
+use Rattle.layout.proofs.Seen.{ctab-seen, ctab-unseen, cntt-seen, cntt-unseen}
 use Rattle.layout.proofs.Cntts.{channel-in, CnttMore, cntt-turn-more, cntt-fits}
 use Rattle.refusals.specs.Contents.{ctabTag, ctabSource, cnttTag, cnttSource, CtabsBefore, CnttInRange, CnttStands, CnttsBefore}
 use Rattle.refusals.specs.Contents.{ContentsRefused, cntt-head, cntt-size, cntt-channel, cntt-value, cntt-again, cntt-stray, cntt-order}
 use Rattle.refusals.proofs.Told.{TurnTold, RunTold, if-told, run-told}
 use Rattle.refusals.proofs.Heads.{head-told, headed}
-use Rattle.refusals.proofs.Ctabs.{ctab-seen, ctab-unseen, ctab-only}
-
--- the first of j Cntts that has a source channel
-module _ (c : List ℕ) (q j channel : ℕ) where
-  pub cntt-seen : cnttOf c q j channel < j → cnttChannel c q (cnttOf c q j channel) ≡ channel
-  unfolding cnttOf
-  cntt-seen h = eqb-true _ _ (first-stands (λ i. eqb (cnttChannel c q i) channel) j h)
-
-  pub cntt-unseen : j ≤ cnttOf c q j channel → (i : ℕ) → i < j → cnttChannel c q i ≡ channel → ⊥
-  unfolding cnttOf
-  cntt-unseen h i l = eqb-false _ _ (first-passed (λ i. eqb (cnttChannel c q i) channel) j i (omega arith))
+use Rattle.refusals.proofs.Ctabs.{ctab-only}
 
 module _ (c : List ℕ) (n : ℕ) (ctabs : CtabsBefore c n) (over : ctabTag c n < length c → (ctabTag c n + 8 ≤ length c) × (tagAt c (ctabTag c n) ≡ Cntt)) (within : ctabTag c n ≤ length c) where
   -- where the Ctabs begin, and where the Cntts do

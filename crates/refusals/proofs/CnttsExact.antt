@@ -16,7 +16,7 @@ use Rattle.refusals.specs.Heads.{HeadRefused, Headed}
 use Rattle.refusals.specs.Contents.{ctabTag, ctabSource, cnttTag, cnttSource, CnttInRange, CnttsBefore}
 use Rattle.refusals.proofs.Reached.{run-reaches, head-is, head-none}
 use Rattle.refusals.proofs.Ctabs.{ctab-only}
-use Rattle.refusals.proofs.Cntts.{cntt-seen, cntt-unseen}
+use Rattle.layout.proofs.Seen.{cntt-seen, cntt-unseen}
 use Rattle.refusals.proofs.CtabsExact.{ctab-has, ctab-has-not, ctabs-within}
 
 -- whether a channel stands among j Cntts

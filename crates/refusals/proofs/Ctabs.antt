@@ -15,22 +15,13 @@ use Rattle.layout.specs.Bytes.{word, tagAt, tagged, Sdec, Ctab, Cntt}
 use Rattle.layout.specs.Ranges.{firstEdition, ranges, outOf, firstOut}
 use Rattle.layout.specs.Sdec.{soundText}
 use Rattle.layout.specs.Group.{headFault, ctabsOver, ctabChannel, ctabOf, ctabAt, ctabTurn, ctabsOf}
-use Rattle.layout.proofs.Scans.{first-passed, first-stands, first-is, run-ended}
+use Rattle.layout.proofs.Scans.{first-passed, first-is, run-ended}
+use Rattle.layout.proofs.Seen.{ctab-seen, ctab-unseen}
 use Rattle.layout.proofs.Ctabs.{over-end, over-tag, CtabMore, turn-more, ctab-fits}
 use Rattle.refusals.specs.Heads.{Headed}
 use Rattle.refusals.specs.Contents.{ctabTag, ctabSource, CtabInRange, CtabStands, CtabsBefore, ContentsRefused, ctab-head, ctab-size, ctab-byte, ctab-again}
 use Rattle.refusals.proofs.Told.{TurnTold, RunTold, if-told, run-told, tag-there, tag-other}
 use Rattle.refusals.proofs.Heads.{head-told, headed, first-such}
-
--- the first of n Ctabs that has a source channel
-module _ (c : List ℕ) (p n channel : ℕ) where
-  pub ctab-seen : ctabOf firstEdition c p n channel < n → ctabChannel firstEdition c p (ctabOf firstEdition c p n channel) ≡ channel
-  unfolding ctabOf
-  ctab-seen h = eqb-true _ _ (first-stands (λ i. eqb (ctabChannel firstEdition c p i) channel) n h)
-
-  pub ctab-unseen : n ≤ ctabOf firstEdition c p n channel → (i : ℕ) → i < n → ctabChannel firstEdition c p i ≡ channel → ⊥
-  unfolding ctabOf
-  ctab-unseen h i l = eqb-false _ _ (first-passed (λ i. eqb (ctabChannel firstEdition c p i) channel) n i (omega arith))
 
 -- among Ctabs whose source channels are their own, the one that has a channel is the first that has it
 pub ctab-only : (c : List ℕ) (n a channel : ℕ) → CtabsBefore c n → a < n → ctabSource c a ≡ channel → ctabOf firstEdition c (8 + word c 4) n channel ≡ a

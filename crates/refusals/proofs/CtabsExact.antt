@@ -17,7 +17,7 @@ use Rattle.layout.proofs.Ctabs.{over-end, over-cut, over-tag}
 use Rattle.refusals.specs.Heads.{HeadRefused, Headed}
 use Rattle.refusals.specs.Contents.{FirstSuch, ctabTag, ctabSource, CtabInRange, CtabsBefore}
 use Rattle.refusals.proofs.Reached.{run-reaches, run-comes-to, tagged-so, tagged-not, head-is, head-none, such-first}
-use Rattle.refusals.proofs.Ctabs.{ctab-seen, ctab-unseen}
+use Rattle.layout.proofs.Seen.{ctab-seen, ctab-unseen}
 
 -- a Ctab is no Cntt
 apart-tags : (t : List ℕ) → t ≡ Ctab → t ≡ Cntt → ⊥

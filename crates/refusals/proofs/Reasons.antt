@@ -1,16 +1,14 @@
 -- The kind of each entry of a salvage list that is no group is the refusal of its bytes. Proved of each part, and so of each entry.
-use Prim.Native.Nat.{ℕ, zero, suc, _+_, _<_}
-use native.Mathlib.Nat.{not-suc-le-zero, suc-add}
+use Prim.Native.Nat.{ℕ}
 use native.Mathlib.Omega.{arith}
 use mathlib.Core.Path.{_≡_, refl}
 use mathlib.Core.List.{List, [], _∷_, flatMap}
 use lib.ListN.{drop}
-use lib.Seq.{drop-drop}
+use Rattle.layout.specs.Lists.{All}
 use Rattle.layout.specs.declared.turn.Judged.{Judged}
 use Rattle.layout.specs.declared.turn.Judged.the-variants.{Unsound, Sound}
 use Rattle.layout.specs.Group.{groupSize, groupAt}
 use Rattle.layout.specs.Salvage.{front, pieces, Part, rest, listed, judged, parts, Entry, salvage}
-use Rattle.salvage.proofs.Each.{All}
 use Rattle.salvage.proofs.Cseg.{Free, Piece}
 use Rattle.salvage.proofs.Cut.{front-is-free, pieces-are}
 use Rattle.salvage.proofs.Verdicts.{size-some}
@@ -18,6 +16,7 @@ use Rattle.laws.specs.Salvage.{bytesOf}
 use Rattle.laws.proofs.Elements.{all-append, all-flatMap}
 use Rattle.laws.proofs.Joined.{parts-joined}
 use Rattle.laws.proofs.Places.{entries-all}
+use Rattle.laws.proofs.Entries.{dropped-free}
 use Rattle.refusals.specs.Body.{GroupRefused}
 use Rattle.refusals.specs.Salvage.{EntryRefused, piece-refused, other-bytes}
 use Rattle.refusals.proofs.Told.{JudgedTold}
@@ -34,11 +33,6 @@ rest-reasons : (s : List ℕ) → Free s → AllReasons (rest s)
 unfolding rest
 rest-reasons [] f = tt
 rest-reasons (b ∷ s) f = (λ z. other-bytes f, tt)
-
--- past its start a piece has no CSEG
-dropped-free : (p : List ℕ) → Piece p → (n : ℕ) → 0 < n → Free (drop n p)
-dropped-free p c zero h k = absurd (not-suc-le-zero h)
-dropped-free p c (suc n) h k = rw (drop-drop, suc-add) (c .only (n + k))
 
 listed-reasons : (p : List ℕ) → Piece p → (v : Judged) → groupAt p ≡ v → JudgedTold (GroupRefused p) v → AllReasons (listed p v)
 unfolding listed

@@ -1,5 +1,6 @@
 -- Records in memory are refused wherever the condition of a row holds: placement, writing, the screen; and so is the salvage list.
 use Prim.Native.Nat.{ℕ, _+_, _*_, _≤_, _<_}
+use mathlib.Core.Bool.{or-true}
 use mathlib.Core.Path.{_≡_, sym, _∙_}
 use mathlib.Core.List.{List}
 use native.Mathlib.Omega.{arith}
@@ -24,7 +25,6 @@ use Rattle.refusals.specs.Records.{FirstBadByte, InRange, PlaceRefused, 
 use Rattle.refusals.specs.Records.{FieldRefused, index-out, value-out, SalvageRefused, list-over, list-short}
 use Rattle.refusals.proofs.Reached.{run-from, run-reaches, such-first}
 use Rattle.refusals.proofs.TextExact.{text-not}
-use Rattle.refusals.proofs.AskedExact.{or-true}
 use Rattle.refusals.proofs.Written.{record-seen, record-unseen}
 
 -- ---- one record in memory

@@ -17,11 +17,6 @@ shift k i = omega arith
 -- ---- a list by its rows
 
 module _ {A : Type 0} where
-  pub length-rows : (f : ℕ → A) (k n : ℕ) → length (rows f k n) ≡ n
-  unfolding rows
-  length-rows f k zero = refl
-  length-rows f k (suc n) = ap suc (length-rows f (suc k) n)
-
   rows-at : (f : ℕ → A) (d : A) (k n i : ℕ) → i < n → getD (rows f k n) i d ≡ f (k + i)
   unfolding rows
   rows-at f d k zero i h = absurd (omega arith)

@@ -19,7 +19,8 @@ use Rattle.layout.proofs.Groups.{cseg-tag}
 use Rattle.layout.proofs.Bodies.{turn-end, turn-sound, Accepted, body-within}
 use Rattle.rounds.specs.Rounds.{Bytes, groupsOf, BodyAllowed}
 use Rattle.rounds.proofs.Runs.{ran-run}
-use Rattle.rounds.proofs.Blocks.{moved, length-rows, getD-rows, rows-is, blocks-read, blocks-written}
+use Rattle.layout.proofs.Lists.{rows-length}
+use Rattle.rounds.proofs.Blocks.{moved, getD-rows, rows-is, blocks-read, blocks-written}
 use Rattle.rounds.proofs.Chunks.{bytes-drop}
 use Rattle.rounds.proofs.GroupRounds.{group-allowed, group-back}
 use Rattle.rounds.proofs.GroupThere.{there-sound, there-size, there-value, there-fits, there-ends, there-head, there-text}
@@ -62,11 +63,11 @@ module _ (s : List ℕ) (n : ℕ) (b : Bytes s) (h : Accepted s n) where
 
   pub body-allowed : BodyAllowed (groupsOf s n)
   body-allowed =
-      let below : (i : ℕ) → i < length (groupsOf s n) → i < n = λ i u. rw length-rows at u in
+      let below : (i : ℕ) → i < length (groupsOf s n) → i < n = λ i u. rw rows-length at u in
       let at : (i : ℕ) → i < length (groupsOf s n) → getD (groupsOf s n) i noGroup ≡ groupNo s i = λ i u. getD-rows (groupNo s) noGroup n i (below i u) in
       record {
         each = λ i u. rw (at i u) (allowed-of i (below i u));
-        few = omega (arith, length-rows (groupNo s) 0 n, h .few);
+        few = omega (arith, rows-length (groupNo s) 0 n, h .few);
         apart = λ i j u v. rw (at i (omega arith), at j v) (apart-of i j u (below j v));
         short = rw body-back (h .short);
       }

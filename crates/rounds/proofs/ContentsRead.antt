@@ -4,10 +4,9 @@ use mathlib.Core.Path.{_≡_, refl, sym, ap, _∙_}
 use mathlib.Core.Bool.{Bool, true, false, cond}
 use mathlib.Core.List.{List, _++_, append-nil, flatMap}
 use native.Mathlib.Omega.{arith}
-use native.Mathlib.Nat.{add-zero}
 use lib.Dec.{ltb}
 use lib.ListN.{length, getD, take, drop}
-use lib.Seq.{drop-length, getD-take, getD-drop, take-all}
+use lib.Seq.{drop-length, take-all}
 use borrow.Author.Tests.{ltb-true}
 use Rattle.layout.specs.Lists.{rows}
 use Rattle.layout.specs.Bytes.{word, Sdec, chunk}
@@ -21,14 +20,18 @@ use Rattle.layout.proofs.Heads.{head-sound}
 use Rattle.layout.proofs.Ctabs.{CtabMore, turn-more}
 use Rattle.layout.proofs.Cntts.{CnttMore, cntt-turn-more}
 use Rattle.layout.proofs.Groups.{Contents}
+use Rattle.layout.proofs.Lists.{rows-length}
+use Rattle.layout.proofs.Sixteen.{channels-apart}
+use Rattle.layout.proofs.RecordBytes.{record-channel}
 use Rattle.rounds.specs.Rounds.{Bytes}
 use Rattle.rounds.proofs.RecordBack.{read-bytes, read-whole}
 use Rattle.rounds.proofs.Runs.{run-ran}
-use Rattle.rounds.proofs.Blocks.{moved, length-rows, getD-rows, blocks-read}
+use Rattle.rounds.proofs.Blocks.{moved, getD-rows, blocks-read}
 use Rattle.rounds.proofs.Chunks.{chunk-read}
-use Rattle.rounds.proofs.Follows.{Apart, pairBytes, ownCntt, valueOn, cntts-written}
+use Rattle.layout.proofs.Pigeonhole.{Apart}
+use Rattle.rounds.proofs.Follows.{pairBytes, ownCntt, valueOn, cntts-written}
 use Rattle.rounds.proofs.InRange.{none-bad, value-good, absent-good}
-use Rattle.rounds.proofs.CtabRounds.{read-ranged, read-apart, held-byte, held-size, ctab-read}
+use Rattle.rounds.proofs.CtabRounds.{read-ranged, held-byte, held-size, ctab-read}
 use Rattle.rounds.proofs.CnttOrder.{Ordered, order-read, homeRead, follows-read}
 use Rattle.rounds.proofs.CnttRounds.{cntt-read}
 
@@ -50,10 +53,8 @@ module _ (c : List ℕ) (t n m : ℕ) where
   valueAt j = getD c (8 + t + 35 * n + 10 * j + 9) 0
 
   channels : (i : ℕ) → channelOf (row i) ≡ ctabChannel firstEdition c (8 + t) i
-  unfolding channelOf recordAt recordOf ctabChannel
-  channels i =
-      getD-take 26 (drop (8 + t + 35 * i + 8) c) 0 0 (omega arith) ∙ getD-drop (8 + t + 35 * i + 8) c 0 0
-      ∙ ap (λ k. getD c k 0) (add-zero (8 + t + 35 * i + 8))
+  unfolding channelOf
+  channels i = record-channel c p q m i
 
   seconds : (i : ℕ) → row i .second ≡ valueOn (cnttChannel c q) valueAt m (ctabChannel firstEdition c p i)
   unfolding recordAt recordOf secondOf cnttOf
@@ -69,8 +70,7 @@ module _ (c : List ℕ) (t n m : ℕ) where
     cntt j l = cntt-turn-more c p n q j (run-ran (cnttTurn c p n q) (length c + 1) m (h .cntts) .goes j l)
 
     apart : Apart (ctabChannel firstEdition c p) n
-    unfolding ctabChannel
-    apart i j k l e = read-apart c p j (8 + t + 35 * j) (ctab j l) i k e
+    apart = channels-apart c p n (h .ctabs) .apart
 
     ordered : (j : ℕ) → j < m → Ordered c p n q j (cnttChannel c q j)
     unfolding cnttChannel
@@ -134,7 +134,7 @@ module _ (c : List ℕ) (t n m : ℕ) where
     pub contents-allowed : Allowed (groupOf c t n m)
     unfolding groupOf recordAt
     contents-allowed =
-        let below : (i : ℕ) → i < length (rows row 0 n) → i < n = λ i u. rw length-rows at u in
+        let below : (i : ℕ) → i < length (rows row 0 n) → i < n = λ i u. rw rows-length at u in
         let at : (i : ℕ) → i < length (rows row 0 n) → getD (rows row 0 n) i blank ≡ row i = λ i u. getD-rows row blank n i (below i u) in
         record {
           text = h .letters;

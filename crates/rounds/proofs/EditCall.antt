@@ -17,8 +17,8 @@ use Rattle.layout.proofs.Bodies.{body-accepted}
 use Rattle.rounds.specs.Rounds.{Bytes, EditRead}
 use Rattle.rounds.specs.Calls.{CtabChanged}
 use Rattle.rounds.proofs.CtabRounds.{length-file}
+use Rattle.layout.proofs.Replaced.{replaced-length}
 use Rattle.rounds.proofs.InRange.{edit-ranged}
-use Rattle.rounds.proofs.Replaced.{length-replaced}
 use Rattle.rounds.proofs.EditedGroup.{group-edited}
 use Rattle.rounds.proofs.EditGranted.{EditGranted, edit-granted}
 use Rattle.rounds.proofs.EditPlace.{edit-placed}
@@ -47,7 +47,7 @@ module _ (s : List ℕ) (g channel : ℕ) (new : Record) (b : Bytes s) (w : Whol
         row = row;
         found = found;
         within = within;
-        size = ap length (q .is) ∙ length-replaced s (row .at) (fileBytes new) (omega (arith, within, length-file new));
+        size = ap length (q .is) ∙ replaced-length s (row .at) (fileBytes new) (omega (arith, within, length-file new));
         bytes = q .is ∙ ap (λ n. take (row .at) s ++ (fileBytes new ++ drop (row .at + n) s)) (length-file new);
       }
 

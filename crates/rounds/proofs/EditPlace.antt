@@ -14,7 +14,8 @@ use Rattle.layout.specs.Write.{groupBytes, Allowed}
 use Rattle.layout.proofs.Scans.{first-stands}
 use Rattle.layout.proofs.Bodies.{Accepted}
 use Rattle.rounds.specs.Rounds.{Bytes, groupsOf}
-use Rattle.rounds.proofs.Blocks.{length-rows, getD-rows, block-place}
+use Rattle.layout.proofs.Lists.{rows-length}
+use Rattle.rounds.proofs.Blocks.{getD-rows, block-place}
 use Rattle.rounds.proofs.GroupThere.{there-sound, there-size, there-ends, there-channel}
 use Rattle.rounds.proofs.BodyRounds.{allowed-of, bytes-of}
 
@@ -52,11 +53,11 @@ module _ (s : List ℕ) (n g : ℕ) (b : Bytes s) (h : Accepted s n) (l : g < n)
   -- a group stands behind the bytes of those before it
   place-is : groupPlace s g ≡ length (flatMap groupBytes (take g (groupsOf s n)))
   unfolding groupPlace
-  place-is = block-place noGroup groupBytes (groupsOf s n) (groupPlace s) next g (rw length-rows (omega arith)) ∙ omega arith
+  place-is = block-place noGroup groupBytes (groupsOf s n) (groupPlace s) next g (rw rows-length (omega arith)) ∙ omega arith
     where
       next : (i : ℕ) → i < length (groupsOf s n) → groupPlace s (suc i) ≡ groupPlace s i + length (groupBytes (getD (groupsOf s n) i noGroup))
       next i u =
-          let k : i < n = rw length-rows at u in
+          let k : i < n = rw rows-length at u in
           rw (getD-rows (groupNo s) noGroup n i k) (ap (λ x. groupPlace s i + x) (there-size s (groupPlace s i) (groupNo s i) _ (bytes-of s n b h i k) (allowed-of s n b h i k)))
 
   module _ (channel : ℕ) (has : rowIn s (standing s g) channel < standing s g .records) where

@@ -14,11 +14,12 @@ use Rattle.layout.specs.Write.{groupBytes, Whole, Allowed}
 use Rattle.layout.specs.Edit.{replaced, edited}
 use Rattle.layout.proofs.Bodies.{Accepted, body-accepted}
 use Rattle.rounds.specs.Rounds.{Bytes, groupsOf, BodyAllowed, withRecord, EditRead}
-use Rattle.rounds.proofs.Blocks.{length-rows}
-use Rattle.rounds.proofs.InRange.{Ranged, edit-ranged}
+use Rattle.layout.proofs.Lists.{rows-length}
+use Rattle.layout.proofs.Replaced.{replaced-length, replaced-block}
+use Rattle.layout.proofs.Records.{Ranged}
+use Rattle.rounds.proofs.InRange.{edit-ranged}
 use Rattle.rounds.proofs.BodyRounds.{body-back, body-allowed, body-run, groups-back}
 use Rattle.rounds.proofs.Sets.{set-each, set-same}
-use Rattle.rounds.proofs.Replaced.{length-replaced, replaced-block}
 use Rattle.rounds.proofs.EditPlace.{EditPlaced, edit-placed}
 use Rattle.rounds.proofs.EditGranted.{edit-granted}
 use Rattle.rounds.proofs.EditedGroup.{Edited, group-edited}
@@ -61,15 +62,15 @@ module _ (s : List ℕ) (n g channel : ℕ) (b : Bytes s) (h : Accepted s n) (l 
   bytes-after : replaced s (groupPlace s g + inner) (fileBytes new) ≡ flatMap groupBytes (set (groupsOf s n) g put)
   bytes-after =
       ap₂ (λ x y. replaced x (y + inner) (fileBytes new)) (sym (body-back s n b h)) (p .place)
-      ∙ replaced-block noGroup groupBytes (groupsOf s n) g inner put (fileBytes new) (rw length-rows l) (rw (p .listed) (group .room)) (rw (p .listed) (group .bytes))
+      ∙ replaced-block noGroup groupBytes (groupsOf s n) g inner put (fileBytes new) (rw rows-length l) (rw (p .listed) (group .room)) (rw (p .listed) (group .bytes))
 
   groups-allowed : BodyAllowed (set (groupsOf s n) g put)
   groups-allowed =
-      let long = length-replaced s (groupPlace s g + inner) (fileBytes new) (omega (arith, group .room, p .ends)) in
+      let long = replaced-length s (groupPlace s g + inner) (fileBytes new) (omega (arith, group .room, p .ends)) in
       set-allowed (groupsOf s n) g put (body-allowed s n b h) (group .allowed) (rw (p .listed)) (rw (← bytes-after, long) (h .short))
 
   count : length (set (groupsOf s n) g put) ≡ n
-  count = length-set (groupsOf s n) g put ∙ length-rows (groupNo s) 0 n
+  count = length-set (groupsOf s n) g put ∙ rows-length (groupNo s) 0 n
 
   -- the bytes after are accepted, with as many groups ..
   run-after : bodyRun (replaced s (groupPlace s g + inner) (fileBytes new)) ≡ Ended n

@@ -17,10 +17,11 @@ use Rattle.rounds.proofs.Blocks.{length-blocks}
 use Rattle.rounds.proofs.Sets.{set-each, set-same, flat-same}
 use Rattle.rounds.proofs.Chunks.{length-chunk}
 use Rattle.rounds.proofs.Follows.{ownCntt}
-use Rattle.rounds.proofs.InRange.{Ranged, second-good, none-bad}
+use Rattle.layout.proofs.Records.{Ranged, second-good}
+use Rattle.rounds.proofs.InRange.{none-bad}
 use Rattle.rounds.proofs.CtabRounds.{length-file, length-ctab}
 use Rattle.rounds.proofs.GroupRounds.{rest, spread}
-use Rattle.rounds.proofs.Replaced.{replaced-behind, replaced-before, replaced-whole, replaced-chunk, replaced-block}
+use Rattle.layout.proofs.Replaced.{replaced-behind, replaced-before, replaced-whole, replaced-chunk, replaced-block}
 
 -- the group with record number i replaced, and its bytes in those of the group before
 pub record Edited (g : Group) (i : ℕ) (new : Record) : Type 0 where
@@ -49,7 +50,7 @@ module _ (g : Group) (a : Allowed g) (i : ℕ) (l : i < length (g .records)) (ne
   -- ---- it is allowed
 
   put-good : firstBad firstEdition put ≡ 26
-  put-good = none-bad put (λ k u. rw put-bytes (r k u)) (second-good old (a .ranges i l))
+  put-good = none-bad put (λ k u. rw put-bytes (r k u)) (second-good old (omega (arith, a .ranges i l)))
 
   edited-allowed : Allowed (withRecord g i new)
   edited-allowed =

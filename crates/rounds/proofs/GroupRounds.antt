@@ -1,19 +1,16 @@
 -- The two round trips of a group: what is sound is given back byte for byte and is allowed; what is allowed and written is read, whatever stands behind it.
 use Prim.Native.Nat.{ℕ, _+_, _-_, _≤_}
 use mathlib.Core.Path.{_≡_, refl, sym, ap, ap₂, _∙_}
-use mathlib.Core.Bool.{Bool, true, false, _&&_, false≢true}
 use mathlib.Core.List.{List, _++_, flatMap}
 use native.Mathlib.Omega.{arith}
-use lib.Dec.{leb}
 use lib.ListN.{length, take, drop}
 use lib.Seq.{drop-drop, take-at, drop-at}
-use borrow.Author.Tests.{leb-true}
 use Rattle.layout.specs.Bytes.{word, CSEG, Sdec, chunk}
 use Rattle.layout.specs.Ranges.{inside}
-use Rattle.layout.specs.Sdec.{soundText}
 use Rattle.layout.specs.declared.turn.Judged.the-variants.{Sound}
 use Rattle.layout.specs.Group.{contents, payload, groupSize, groupAt, Group, groupOf}
 use Rattle.layout.specs.Write.{ctabBytes, payloadBytes, groupBytes, Allowed}
+use Rattle.layout.proofs.Texts.{text-most}
 use Rattle.layout.proofs.Heads.{head-sound}
 use Rattle.layout.proofs.Groups.{sdec-tag, cseg-tag, contents-sound, group-sound, contents-sound-is, group-sound-is, payload-length}
 use Rattle.rounds.specs.Rounds.{Bytes, GroupRead}
@@ -42,20 +39,6 @@ module _ (p : List ℕ) (t n m : ℕ) (e : groupAt p ≡ Sound t n m) where
 
 -- ---- written
 
-and-true : (a b : Bool) → a && b ≡ true → a ≡ true
-and-true true b e = refl
-and-true false b e = absurd (false≢true e)
-
-and-later : (a b : Bool) → a && b ≡ true → b ≡ true
-and-later true b e = e
-and-later false b e = absurd (false≢true e)
-
--- "1 to 255 bytes"
-pub text-short : (t : List ℕ) → soundText t ≡ true → length t ≤ 255
-unfolding soundText inside
-text-short t e =
-    leb-true (length t) 255 (and-later (leb 1 (length t)) (leb (length t) 255) (and-true (leb 1 (length t) && leb (length t) 255) _ e))
-
 -- what stands behind the Sdec
 unfoldable pub rest : Group → List ℕ
 rest g = flatMap ctabBytes (g .records) ++ flatMap ownCntt (g .records)
@@ -66,7 +49,7 @@ module _ (g : Group) (a : Allowed g) where
   spread = refl
 
   pub short : length (g .text) ≤ 255
-  short = text-short (g .text) (a .text)
+  short = text-most (g .text) (a .text)
 
   sdec-rest : drop 8 (payloadBytes g) ≡ g .text ++ rest g
   sdec-rest = written-rest (payloadBytes g) 0 Sdec (g .text) (rest g) refl spread

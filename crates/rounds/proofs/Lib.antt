@@ -16,7 +16,6 @@ pub mod GroupRounds
 pub mod GroupThere
 pub mod BodyRounds
 pub mod Sets
-pub mod Replaced
 pub mod EditedGroup
 pub mod EditGranted
 pub mod EditPlace

@@ -14,6 +14,7 @@ use Rattle.layout.specs.Records.{bytesOf, recordOf}
 use Rattle.layout.specs.Answers.{granted}
 use Rattle.layout.specs.Write.{Whole}
 use Rattle.layout.specs.Screen.{fieldSet}
+use Rattle.layout.proofs.Records.{bytes-length}
 use Rattle.rounds.proofs.Granted.{if-granted, granted-once}
 
 -- n elements from k on, one by one
@@ -68,10 +69,6 @@ bytes-read r w =
     ap (λ (v : List ℕ). with r v (spelled (r .roots) 0 2) (spelled (r .chords) 0 5)) (spelled-whole 8 (r .voice) (w .voice))
     ∙ (ap (λ (o : List ℕ). with r (r .voice) o (spelled (r .chords) 0 5)) (spelled-whole 2 (r .roots) (w .roots))
     ∙ ap (λ (h : List ℕ). with r (r .voice) (r .roots) h) (spelled-whole 5 (r .chords) (w .chords)))
-
-pub bytes-length : (r : Record) → length (bytesOf r) ≡ 26
-unfolding bytesOf
-bytes-length r = refl
 
 -- a record that was read has all its bytes
 pub read-whole : (b : List ℕ) (second : SecondTable) → Whole (recordOf b second)

@@ -18,7 +18,7 @@ use Rattle.layout.specs.Screen.{fieldSet}
 use Rattle.layout.proofs.Bodies.{body-accepted}
 use Rattle.rounds.specs.Rounds.{Bytes, groupsOf, GroupRead, BodyAllowed, WrittenAs, EditRead}
 use Rattle.rounds.proofs.RecordBack.{read-bytes, bytes-read, set-alone}
-use Rattle.rounds.proofs.Blocks.{length-rows}
+use Rattle.layout.proofs.Lists.{rows-length}
 use Rattle.rounds.proofs.GroupRounds.{group-allowed, group-back, group-read}
 use Rattle.rounds.proofs.BodyRounds.{body-back, body-allowed, body-run, groups-back}
 use Rattle.rounds.proofs.EditRounds.{edit-back}
@@ -53,7 +53,7 @@ body-written-read gs a = (body-run gs a, groups-back gs a)
 pub accepted-is-written : (s : List ℕ) (n : ℕ) → Bytes s → bodyRun s ≡ Ended n → WrittenAs s n
 accepted-is-written s n b e =
     let r = body-read-written s n b e in
-    record { groups = groupsOf s n; count = length-rows (groupNo s) 0 n; allowed = r .1; bytes = r .0 }
+    record { groups = groupsOf s n; count = rows-length (groupNo s) 0 n; allowed = r .1; bytes = r .0 }
 
 -- .. and nothing else is
 pub written-is-accepted : (s : List ℕ) (n : ℕ) → WrittenAs s n → bodyRun s ≡ Ended n

@@ -11,6 +11,7 @@ use Rattle.layout.specs.declared.turn.Turn.{Turn}
 use Rattle.layout.specs.declared.turn.Turn.the-variants.{More, Done}
 use Rattle.layout.specs.declared.turn.Run.the-variants.{Ended}
 use Rattle.layout.proofs.Scans.{run-ended}
+use Rattle.layout.proofs.Pigeonhole.{Apart}
 
 -- what holds at k, and at i where i is above k, holds from k on
 pub from : (P : ℕ → Type 0) (k i : ℕ) → P k → (k < i → P i) → k ≤ i → P i
@@ -21,7 +22,7 @@ from P k i h f l = go (decLt k i)
     go (no m) = let z : k ≡ i = omega arith in rw z at h
 
 -- numbers of which no earlier one is a later one are all different
-pub differ : (K : ℕ → ℕ) (n : ℕ) → ((i j : ℕ) → i < j → j < n → K i ≡ K j → ⊥) → (i j : ℕ) → i < n → j < n → (i ≡ j → ⊥) → K i ≡ K j → ⊥
+pub differ : (K : ℕ → ℕ) (n : ℕ) → Apart K n → (i j : ℕ) → i < n → j < n → (i ≡ j → ⊥) → K i ≡ K j → ⊥
 differ K n a i j hi hj d e = go (decLt i j)
   where
     go : Dec (i < j) → ⊥

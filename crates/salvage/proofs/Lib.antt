@@ -1,4 +1,3 @@
-pub mod Each
 pub mod Positions
 pub mod Cseg
 pub mod Cut

@@ -8,7 +8,7 @@ use Rattle.layout.specs.declared.turn.Judged.{Judged}
 use Rattle.layout.specs.declared.turn.Judged.the-variants.{Unsound, Sound}
 use Rattle.layout.specs.Group.{groupSize, groupAt}
 use Rattle.layout.specs.Salvage.{front, pieces, Part, rest, listed, judged, parts, Entry, entriesFrom, salvage, entryNumbers, listNumbers}
-use Rattle.salvage.proofs.Each.{All}
+use Rattle.layout.specs.Lists.{All}
 use Rattle.salvage.proofs.Cseg.{Piece, cseg-is}
 use Rattle.salvage.proofs.Cut.{cut-joined, pieces-are}
 use Rattle.salvage.proofs.Verdicts.{size-some, size-within}

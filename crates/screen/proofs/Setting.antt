@@ -1,20 +1,15 @@
 -- One field byte set: one law for each way out.
 use Prim.Native.Nat.{ℕ, _≤_, _<_}
-use mathlib.Core.Path.{_≡_, refl}
+use mathlib.Core.Path.{_≡_}
 use mathlib.Core.Bool.{true, false}
 use mathlib.Core.List.{List}
-use lib.ListN.{length, set}
+use lib.ListN.{set}
 use borrow.Author.Tests.{le-leb, lt-leb}
 use Rattle.layout.specs.declared.record.Record.{Record}
 use Rattle.layout.specs.Ranges.{ranges, outOf}
 use Rattle.layout.specs.Records.{bytesOf, recordOf}
 use Rattle.layout.specs.Answers.{numberOf, placeOf, valueOr}
 use Rattle.layout.specs.Screen.{fieldSet, changed}
-
--- a record has its 26 bytes
-pub bytes-length : (r : Record) → length (bytesOf r) ≡ 26
-unfolding bytesOf
-bytes-length r = refl
 
 module _ (r : Record) (index value : ℕ) where
   pub set-over : 26 ≤ index → changed r (fieldSet r index value) ≡ record { number = 16; place = 0; held = r }

@@ -6,14 +6,10 @@ use mathlib.Core.List.{List}
 use native.Mathlib.Omega.{arith}
 use lib.Dec.{ltb, eqb}
 use lib.ListN.{length}
-use borrow.Author.Tests.{eq-eqb, ne-eqb, lt-ltb, le-ltb, ltb-true, ltb-false}
+use borrow.Author.Tests.{eq-eqb, ne-eqb, lt-ltb, le-ltb, ltb-false}
 use Rattle.layout.specs.Bytes.{word, four, tagged, MThd, MTrk}
 use Rattle.layout.specs.Style.{noStyle}
-
--- what is left after a bytes is less than w
-left-less : (n a w : ℕ) → a ≤ n → (b : Bool) → ltb (n - a) w ≡ b → ltb n (a + w) ≡ b
-left-less n a w h true e = let q = ltb-true (n - a) w e in lt-ltb n (a + w) (omega arith)
-left-less n a w h false e = let q = ltb-false (n - a) w e in le-ltb n (a + w) (omega arith)
+use Rattle.layout.proofs.Bodies.{shifted}
 
 module _ (s : List ℕ) where
   pub style-short : length s < 22 → noStyle s ≡ true
@@ -46,7 +42,7 @@ module _ (s : List ℕ) where
         pub style-last : b ≡ true → (w : ℕ) → w ≡ word s 18 → noStyle s ≡ ltb (length s - 22) w
         unfolding noStyle
         style-last h w e =
-            rw (le-ltb (length s) 22 l, mthd, t, eq-eqb (word s 4) 6 six, mtrk, h, ← e) (left-less (length s) 22 w l (ltb (length s - 22) w) refl)
+            rw (le-ltb (length s) 22 l, mthd, t, eq-eqb (word s 4) 6 six, mtrk, h, ← e) (sym (shifted (length s) 22 w l))
 
   -- the track of a style file ends within it
   pub track-within : noStyle s ≡ false → 22 + word s 18 ≤ length s

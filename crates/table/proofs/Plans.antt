@@ -1,53 +1,25 @@
 -- What a plan for reading a group's records says: one law for each way out. The records of a group that was found are those that stand where it says.
-use Prim.Native.Nat.{ℕ, _+_, _*_, _≤_, _<_}
+use Prim.Native.Nat.{ℕ, _≤_, _<_}
 use native.Mathlib.Omega.{arith}
-use mathlib.Core.Path.{_≡_, ap, _∙_}
+use mathlib.Core.Path.{_≡_, _∙_}
 use mathlib.Core.Bool.{cond}
 use mathlib.Core.List.{List, []}
 use lib.Dec.{ltb}
-use lib.ListN.{take, drop}
-use lib.Seq.{drop-drop}
 use borrow.Author.Tests.{lt-ltb, le-ltb}
 use Rattle.layout.specs.declared.record.Record.{Record}
-use Rattle.layout.specs.declared.turn.Judged.the-variants.{Sound}
 use Rattle.layout.specs.declared.answer.Standing.{Standing}
 use Rattle.layout.specs.Lists.{rows}
-use Rattle.layout.specs.Bytes.{word}
 use Rattle.layout.specs.Answers.{refused, granted, numberOf, placeOf, valueOr}
-use Rattle.layout.specs.Group.{payload, groupSize, groupAt, recordAt, groupOf}
-use Rattle.layout.specs.Body.{groupPlace, standingAt, standing, groupValue, groupNo, recordsRead}
-use Rattle.layout.proofs.Groups.{group-sound-is}
+use Rattle.layout.specs.Group.{recordAt}
+use Rattle.layout.specs.Body.{groupPlace, standingAt, standing, groupNo, recordsRead}
+use Rattle.layout.proofs.Lists.{rows-length}
+use Rattle.layout.proofs.RecordBytes.{records-there}
 use Rattle.layout.proofs.Bodies.{body-accepted}
 use Rattle.body.specs.declared.find.Search.the-variants.{Refused, Missing}
 use Rattle.body.specs.Find.{groupLocated}
 use Rattle.body.proofs.AskLaws.{There, there-within, of-refused, of-missing, of-found}
 use Rattle.table.specs.declared.Reading.{Reading}
 use Rattle.table.specs.Reading.{noReading, ReadingPlanned}
-use Rattle.table.proofs.Moved.{rows-alike, rows-length, cut-record}
-
--- ---- the records of a sound group
-
-module _ (s : List ℕ) (at t n m : ℕ) (sound : groupAt (drop at s) ≡ Sound t n m) where
-  -- its payload is what stands behind its header
-  payload-cut : payload (drop at s) ≡ take (word (drop at s) 4) (drop (at + 8) s)
-  unfolding payload
-  payload-cut = ap (λ (x : List ℕ). take (word (drop at s) 4) x) (drop-drop 8 at s)
-
-  record-there : (i : ℕ) → i < n → recordAt (payload (drop at s)) (8 + t) (8 + t + 35 * n) m i ≡ recordAt s (at + 16 + t) (at + 16 + t + 35 * n) m i
-  unfolding groupSize
-  record-there i l =
-      let g = group-sound-is (drop at s) t n m sound in
-      let y : at + 8 + (8 + t) ≡ at + 16 + t = omega arith in
-      let z : at + 8 + (8 + t + 35 * n) ≡ at + 16 + t + 35 * n = omega arith in
-      ap (λ (x : List ℕ). recordAt x (8 + t) (8 + t + 35 * n) m i) payload-cut
-      ∙ (cut-record s (at + 8) (word (drop at s) 4) (8 + t + 35 * n) m (omega (arith, g .size)) (8 + t) i (omega (arith, g .size))
-      ∙ (ap (λ (x : ℕ). recordAt s x (at + 8 + (8 + t + 35 * n)) m i) y ∙ ap (λ (x : ℕ). recordAt s (at + 16 + t) x m i) z))
-
-  records-there : groupValue (drop at s) (groupAt (drop at s)) .records ≡ rows (recordAt s (at + 16 + t) (at + 16 + t + 35 * n) m) 0 n
-  unfolding groupValue groupOf
-  records-there =
-      rw (sound, groupValue)
-      (rows-alike (recordAt (payload (drop at s)) (8 + t) (8 + t + 35 * n) m) (recordAt s (at + 16 + t) (at + 16 + t + 35 * n) m) n (λ i l. record-there i l))
 
 -- ---- a group that was found
 
@@ -84,7 +56,7 @@ module _ (s : List ℕ) (g room : ℕ) where
     unfolding recordsRead
     asked =
         let e = found-records s g x there in
-        let n = rows-length (recordAt s (x .ctabs) (x .cntts) (x .seconds)) (x .records) in
+        let n = rows-length (recordAt s (x .ctabs) (x .cntts) (x .seconds)) 0 (x .records) in
         of-found s g _ x there ∙ rw e (rw n)
 
     pub read-short : room < x .records → recordsRead s g room ≡ refused 14 0

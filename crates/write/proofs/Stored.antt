@@ -4,7 +4,7 @@ use mathlib.Core.Path.{_≡_, refl, sym, _∙_, ap}
 use mathlib.Core.Bool.{Bool, true, false}
 use mathlib.Core.List.{List, [], _∷_, _++_, append-assoc, append-nil}
 use native.Mathlib.Omega.{arith}
-use lib.ListN.{length, getD, set, take, drop, take-append-drop}
+use lib.ListN.{length, getD, set, take, drop}
 use lib.Seq.{drop-cons, set-at}
 use borrow.Rule.Slice.PartMut.{midOf, putMid, mid-len}
 use Rattle.layout.specs.declared.record.Record.{Record}
@@ -12,6 +12,7 @@ use Rattle.layout.specs.declared.record.SecondTable.{SecondTable}
 use Rattle.layout.specs.declared.record.SecondTable.the-variants.{Absent, Value}
 use Rattle.layout.specs.Bytes.{four, chunk, CSEG, Sdec, Ctab, Cntt}
 use Rattle.layout.specs.Records.{bytesOf, channelOf, fileBytes}
+use Rattle.layout.proofs.Replaced.{replaced-none}
 use Rattle.layout.proofs.Ctabs.{ctab-tag}
 use Rattle.layout.proofs.Groups.{sdec-tag, cseg-tag}
 use Rattle.layout.specs.Edit.{replaced}
@@ -87,5 +88,5 @@ module _ (old : List ℕ) (at : ℕ) (r : Record) (l : at ≤ length old) where
   cntt-replaced seconds v ys e f w = rw (e, f) (refl, tail-replaced old (cnttBytes (channelOf r) (Value v)) ys at 10 l refl w)
 
   pub none-replaced : (seconds : Bool) → seconds ≡ true → r .second ≡ Absent → (at ≡ at + length (chunkOf seconds r)) × (old ≡ replaced old at (chunkOf seconds r))
-  unfolding chunkOf cnttBytes replaced
-  none-replaced seconds e f = let z : at + 0 ≡ at = omega arith in rw (e, f, z) (refl, sym (take-append-drop at old))
+  unfolding chunkOf cnttBytes
+  none-replaced seconds e f = rw (e, f) (omega arith, sym (replaced-none old at [] refl))

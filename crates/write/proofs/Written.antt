@@ -14,10 +14,10 @@ use Rattle.layout.specs.Answers.{refused, granted, numberOf, placeOf, valueOr, 
 use Rattle.layout.specs.Edit.{replaced}
 use Rattle.layout.specs.Write.{payloadBytes, groupBytes, groupFrom, written}
 use Rattle.layout.specs.Promises.{GroupWritten}
+use Rattle.layout.proofs.Replaced.{replaced-start, replaced-twice}
 use Rattle.plan.specs.declared.Plan.{Plan}
 use Rattle.plan.specs.Chunks.{chunkOf, chunksOf}
 use Rattle.plan.specs.Checking.{noPlan, planOf, measuredBy, startPlace, startBytes}
-use Rattle.plan.proofs.Passes.{replaced-on}
 use Rattle.plan.proofs.Running.{sizes}
 use Rattle.plan.proofs.Planning.{group-length, NotPlanned, Planned, plan-says}
 
@@ -52,16 +52,12 @@ plan-fits text rs count room = go (plan-says text rs count room)
 
 -- ---- the buffer
 
-start-of : (a out : List ℕ) → replaced out 0 a ≡ a ++ drop (length a) out
-unfolding replaced
-start-of a out = let z : 0 + length a ≡ length a = omega arith in ap (λ (k : ℕ). a ++ drop k out) z
-
 -- three parts written one behind the other
 steps : (a b d out : List ℕ) (i j : ℕ) → length a ≡ i → i + length b ≡ j → replaced (replaced (replaced out 0 a) i b) j d ≡ ((a ++ b) ++ d) ++ drop (length ((a ++ b) ++ d)) out
 steps a b d out i j e f =
-    let first : replaced out 0 a ≡ a ++ drop (length a) out = start-of a out in
-    let z : length (a ++ b) ≡ j = length-append a b ∙ (ap (λ (k : ℕ). k + length b) e ∙ f) in
-    rw (← e, ← z, first, replaced-on a b out) (replaced-on (a ++ b) d out)
+    let y : i ≡ 0 + length a = omega (arith, e) in
+    let z : j ≡ 0 + length (a ++ b) = omega (arith, e, f, length-append a b) in
+    rw (y, z, replaced-twice out 0 a b (omega arith), replaced-twice out 0 (a ++ b) d (omega arith)) (replaced-start out ((a ++ b) ++ d))
 
 parted : (a b c d e : List ℕ) → ((a ++ (b ++ c)) ++ d) ++ e ≡ a ++ (b ++ (c ++ (d ++ e)))
 parted a b c d e =

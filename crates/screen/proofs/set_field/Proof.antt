@@ -2,7 +2,8 @@ use mathlib.Core.Path.{_≡_, sym, _∙_, ap}
 use native.Mathlib.Omega.{arith}
 use lib.ListN.{length, length-set}
 use Rattle.layout.specs.declared.record.Record.{Record}
-use Rattle.screen.proofs.Setting.{bytes-length, set-over, set-out, set-in}
+use Rattle.layout.proofs.Records.{bytes-length}
+use Rattle.screen.proofs.Setting.{set-over, set-out, set-in}
 use borrow.Author.Needs.{needs}
 use Rattle.screen.proofs.set_field.Statement.{statement}
 use Rattle.screen.proofs.set_field.Tie as tie
