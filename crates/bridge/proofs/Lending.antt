@@ -33,6 +33,10 @@ module _ {A : Type 0} (l : List A) (room : ℕ) where
           let z : length l ≤ room = omega arith in
           drop-of-length-le l y ∙ sym (drop-of-length-le l z)
 
+-- .. so more than 32 of 32 records are all of them
+pub lent-all : (xs : List Record) (room : ℕ) → length xs ≡ 32 → take (min room 32) xs ≡ take room xs
+lent-all xs room all = rw all at (take-min xs room)
+
 -- the first n of 32 records were lent, and came back as zs
 module _ (xs zs : List Record) (room n : ℕ) (few : n ≡ min room 32) (all : length xs ≡ 32) (long : length zs ≡ length (take n xs)) where
   front : length zs ≡ n
@@ -43,7 +47,7 @@ module _ (xs zs : List Record) (room n : ℕ) (few : n ≡ min room 32) (all : l
 
   -- what is lent where so much room is asked for
   lent-is : take n xs ≡ take room xs
-  lent-is = let z : n ≡ min room (length xs) = rw all few in rw z (take-min xs room)
+  lent-is = rw few (lent-all xs room all)
 
   back-is : take room (zs ++ drop n xs) ≡ zs
   back-is =

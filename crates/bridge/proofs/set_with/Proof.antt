@@ -20,7 +20,7 @@ use types.Run.{look, init, forget, stop, from, load, addr, of-opd, and-then, no-
 use types.SemTy.{Body}
 use types.Tokens.{lft-new, lft-end}
 use sound.WpLaws.{FmC, fmOf, WpFn-mono}
-use denote.RattleType.{RattleType, owns}
+use denote.RattleType.{owns}
 use denote.Laws.{Is, shows}
 use denote.Memory.{mem, cellAt, partOf}
 use denote.Plain.{uint-makes, uint-vals, uint-tells}
@@ -54,6 +54,7 @@ use Rattle.casm.proofs.field.set_in_place.Symbol as place-def
 use Rattle.casm.proofs.field.set_in_place.Symbol.{name as #set-in-place}
 use Rattle.casm.proofs.field.set_in_place.Met as place-thm
 use Rattle.bridge.proofs.Lending.{back-set}
+use Rattle.bridge.proofs.Cells.{R, vals}
 use Rattle.bridge.proofs.changed_of as both
 use Rattle.bridge.proofs.changed_of.Symbol as both-def
 use Rattle.bridge.proofs.changed_of.Symbol.{name as #changed-of}
@@ -63,13 +64,7 @@ use Rattle.bridge.proofs.set_with as with
 use Rattle.bridge.proofs.set_with.Statement as stated
 use Rattle.bridge.proofs.set_with.Code as code
 
-abbrev R : RattleType
-R = T.the-row
-
 -- a record's machine value
-abbrev vals : Record → List Val
-vals = LL.vals T.the-type T′.the-laws
-
 abbrev val : Record → Val
 val = LL.val T.the-type T′.the-laws
 
