@@ -1,6 +1,7 @@
--- Every read is of a fixed place below 26, and the record is `recordOf` as it is written.
+-- Every read is of a fixed place below 26. The record is told field by field, so that a field with another byte is the equation that fails.
 use mathlib.Core.Path.{refl}
-use Rattle.layout.specs.Records.{recordOf}
+use native.Mathlib.Omega.{arith}
+use Rattle.record.proofs.Fields.{fields}
 use borrow.Author.Needs.{needs}
 use Rattle.record.proofs.held.record_of.Statement.{statement}
 use Rattle.record.proofs.held.record_of.Tie as tie
@@ -84,8 +85,8 @@ shared-slice-read-t59 : tie.Need-shared-slice-read-t59
 shared-slice-read-t59 c = search needs
 
 returns : tie.Need-returns
-unfolding recordOf
-returns c = refl
+returns c =
+    fields _ _ (omega arith) refl (omega arith) (omega arith) refl refl (omega arith) (omega arith) (omega arith) (omega arith) (omega arith) (omega arith) (omega arith) (omega arith) refl
 
 pub record-of-spec : {M : Type 1} → statement M
 record-of-spec =
