@@ -15,7 +15,9 @@ is-out-requires : tie.Need-is-out-requires
 is-out-requires c κs = search needs
 
 returns-2 : tie.Need-returns-2
-returns-2 c = sym (set-out _ _ _ (omega arith) (sym (c .before .is-out .ensures) ∙ c .if2 .taken))
+returns-2 c =
+    let a = c .before .before .before .args in
+    sym (set-out (a .r) (a .index) (a .value) (omega arith) (sym (c .before .is-out .ensures) ∙ c .if2 .taken))
 
 bytes-of-requires : tie.Need-bytes-of-requires
 bytes-of-requires c κs = search needs
