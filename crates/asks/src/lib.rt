@@ -4,21 +4,21 @@ ghost use Rattle.script.specs.Printing.{Waits};
 use casm::questions::place_note;
 use casm::questions::who_plays;
 use layout::record::SourceChannel;
+use numbers::Pair;
+use numbers::Tail;
+use numbers::take_pair;
+use numbers::take_tail;
 use records::record_at;
-use records::record_end;
 use script::print::OUT;
 use script::print::put_bad;
 use tells::put_placed;
 use tells::put_played;
 use tells::put_voice;
-use tokens::Pair;
 use tokens::ROOM;
-use tokens::Tail;
 use tokens::Taken;
 use tokens::first;
 use tokens::take_bytes;
-use tokens::take_pair;
-use tokens::take_tail;
+use words::rec::record_end;
 
 // `plays BYTES NAME ROOT TYPE`
 pub fn plays(

@@ -1,4 +1,4 @@
-// Digits in a script's line: decimal numbers, and pairs of hex digits in lower case.
+// Digits in a script's line: decimal numbers, pairs of hex digits in lower case, and where their token ends.
 ghost use mathlib.Core.Path.{_≡_};
 ghost use Prim.Native.Nat.{_+_, _*_, _≤_};
 ghost use lib.ListN.{length};
@@ -8,6 +8,14 @@ ghost use Rattle.digits.specs.Numbered.{Numbered};
 pub enum Number {
     Is(usize, usize),
     Bad,
+}
+
+// Whether a token ends at `at`.
+pub fn is_end(line: &[u8], at: usize) -> bool {
+    if at < line.len() {
+        return line[at] == b' ';
+    }
+    true
 }
 
 // A decimal digit's value, or 10.

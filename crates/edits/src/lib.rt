@@ -3,13 +3,15 @@
 ghost use Rattle.script.specs.Printing.{Waits};
 use bridge::set_with;
 use casm::editing::edit_record;
-use digits::Number;
 use layout::answer::Answered;
 use layout::record::Record;
 use layout::record::SourceChannel;
+use numbers::Tail;
+use numbers::Two;
+use numbers::take_tail;
+use numbers::take_two;
 use records::put_record;
 use records::record_at;
-use records::record_end;
 use script::print::OUT;
 use script::print::put;
 use script::print::put_bad;
@@ -18,12 +20,10 @@ use script::print::put_end;
 use script::print::put_ok;
 use script::print::put_refused;
 use tokens::ROOM;
-use tokens::Tail;
 use tokens::Taken;
 use tokens::first;
 use tokens::take_bytes;
-use tokens::take_number;
-use tokens::take_tail;
+use words::rec::record_end;
 
 // The answer's number and place, or `ok`, and a space: what stands behind is printed either way.
 fn put_answer(out: &mut [u8; OUT], used: usize, number: u8, place: usize) -> usize
@@ -92,10 +92,7 @@ enum Asked {
 
 // The G and the CHANNEL that stand after the token that ends at `at`.
 fn take_asked(line: &[u8], at: usize) -> Asked {
-    let Number::Is(group, end) = take_number(line, at) else {
-        return Asked::Bad;
-    };
-    let Number::Is(channel, last) = take_number(line, end) else {
+    let Two::Are(group, channel, last) = take_two(line, at) else {
         return Asked::Bad;
     };
     if channel > 255 {

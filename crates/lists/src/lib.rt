@@ -9,6 +9,7 @@ use entries::blank;
 use entries::is_kept;
 use entries::put_entries;
 use layout::answer::Counted;
+use numbers::take_number;
 use script::print::OUT;
 use script::print::put_bad;
 use script::print::put_kept;
@@ -19,7 +20,6 @@ use tokens::ROOM;
 use tokens::Taken;
 use tokens::first;
 use tokens::take_bytes;
-use tokens::take_number;
 
 // The call, with the first n numbers of the list lent.
 fn list_into(body: &[u8], list: &mut [usize], n: usize) -> Counted {

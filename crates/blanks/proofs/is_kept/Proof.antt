@@ -1,8 +1,8 @@
 -- i goes up to 32 at most.
 use Prim.Native.Nat.{_-_, _≤_}
 use borrow.Author.Needs.{needs}
-use Rattle.groups.proofs.table.is_kept.Statement.{statement}
-use Rattle.groups.proofs.table.is_kept.Tie as tie
+use Rattle.blanks.proofs.is_kept.Statement.{statement}
+use Rattle.blanks.proofs.is_kept.Tie as tie
 
 abbrev Inv-loop : tie.InvT-loop
 Inv-loop from records i₀ i = 0 ≤ i

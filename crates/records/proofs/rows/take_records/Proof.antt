@@ -1,8 +1,8 @@
 -- n goes up to 32 at most.
 use Prim.Native.Nat.{_-_, _≤_}
 use borrow.Author.Needs.{needs}
-use Rattle.groups.proofs.table.take_records.Statement.{statement}
-use Rattle.groups.proofs.table.take_records.Tie as tie
+use Rattle.records.proofs.rows.take_records.Statement.{statement}
+use Rattle.records.proofs.rows.take_records.Tie as tie
 
 abbrev Inv-loop : tie.InvT-loop
 Inv-loop line at records₀ from₀ n₀ records from n = n ≤ 32
@@ -10,8 +10,8 @@ Inv-loop line at records₀ from₀ n₀ records from n = n ≤ 32
 abbrev μ-loop : tie.MeasureT-loop
 μ-loop line at records₀ from₀ n₀ records from n = 32 - n
 
-blank-table-requires : tie.Need-blank-table-requires Inv-loop μ-loop
-blank-table-requires c κs = search needs
+record-at-requires : tie.Need-record-at-requires Inv-loop μ-loop
+record-at-requires c κs = search needs
 
 loop-holds : tie.Need-loop-holds Inv-loop μ-loop
 loop-holds c = search needs
@@ -22,8 +22,8 @@ record-end-requires c κs = search needs
 returns : tie.Need-returns Inv-loop μ-loop
 returns c = search needs
 
-record-at-requires : tie.Need-record-at-requires Inv-loop μ-loop
-record-at-requires c κs = search needs
+record-at-requires-2 : tie.Need-record-at-requires-2 Inv-loop μ-loop
+record-at-requires-2 c κs = search needs
 
 mul-records : tie.Need-mul-records Inv-loop μ-loop
 mul-records c = search needs
@@ -52,11 +52,11 @@ take-records-spec =
     (tie.spec
     Inv-loop
     μ-loop
-    blank-table-requires
+    record-at-requires
     loop-holds
     record-end-requires
     returns
-    record-at-requires
+    record-at-requires-2
     mul-records
     array-set-from-records
     add-n

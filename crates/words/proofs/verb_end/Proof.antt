@@ -2,8 +2,8 @@
 use Prim.Native.Nat.{_-_, _≤_}
 use lib.ListN.{length}
 use borrow.Author.Needs.{needs}
-use Rattle.verbs.proofs.verb_end.Statement.{statement}
-use Rattle.verbs.proofs.verb_end.Tie as tie
+use Rattle.words.proofs.verb_end.Statement.{statement}
+use Rattle.words.proofs.verb_end.Tie as tie
 
 abbrev Inv-loop : tie.InvT-loop
 Inv-loop line i₀ i = i ≤ length line

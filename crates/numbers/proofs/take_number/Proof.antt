@@ -3,8 +3,8 @@ use mathlib.Core.Path.{subst}
 use native.Mathlib.Omega.{arith}
 use Rattle.digits.specs.Numbered.{Numbered}
 use borrow.Author.Needs.{needs}
-use Rattle.tokens.proofs.take_number.Statement.{statement}
-use Rattle.tokens.proofs.take_number.Tie as tie
+use Rattle.numbers.proofs.take_number.Statement.{statement}
+use Rattle.numbers.proofs.take_number.Tie as tie
 
 returns : tie.Need-returns
 returns c = search needs

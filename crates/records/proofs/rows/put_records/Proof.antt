@@ -2,8 +2,8 @@
 use Prim.Native.Nat.{_-_}
 use Rattle.script.specs.Printing.{Waits}
 use borrow.Author.Needs.{needs}
-use Rattle.groups.proofs.table.put_records.Statement.{statement}
-use Rattle.groups.proofs.table.put_records.Tie as tie
+use Rattle.records.proofs.rows.put_records.Statement.{statement}
+use Rattle.records.proofs.rows.put_records.Tie as tie
 
 abbrev Inv-loop : tie.InvT-loop
 Inv-loop out₀ used count records after₀ i₀ out after i = Waits after

@@ -1,0 +1,81 @@
+// Numbers as tokens of a script's line. A token stands after one space and ends at a space or at the line's end.
+ghost use lib.ListN.{length};
+ghost use Rattle.digits.specs.Numbered.{Numbered};
+use digits::Number;
+use digits::decimal;
+use digits::is_end;
+
+// Two numbers and the place where the second one's token ends, or no such numbers.
+pub enum Two {
+    Are(usize, usize, usize),
+    Bad,
+}
+
+// Two numbers that end a line, the second up to 255, or no such numbers.
+pub enum Tail {
+    Is(usize, u8),
+    Bad,
+}
+
+// The same where both are up to 255.
+pub enum Pair {
+    Are(u8, u8),
+    Bad,
+}
+
+// The number that stands after the token that ends at `at`.
+pub fn take_number(line: &[u8], at: usize) -> Number
+    ensures { λ r. ⌜ Numbered at (length (now (line .entry))) r ⌝ }
+{
+    if at >= line.len() {
+        return Number::Bad;
+    }
+    if line[at] != b' ' {
+        return Number::Bad;
+    }
+    match decimal(line, at + 1) {
+        Number::Is(value, end) => {
+            if is_end(line, end) {
+                return Number::Is(value, end);
+            }
+            Number::Bad
+        }
+        Number::Bad => Number::Bad,
+    }
+}
+
+// The two numbers that stand after the token that ends at `at`.
+pub fn take_two(line: &[u8], at: usize) -> Two {
+    let Number::Is(one, end) = take_number(line, at) else {
+        return Two::Bad;
+    };
+    let Number::Is(two, last) = take_number(line, end) else {
+        return Two::Bad;
+    };
+    Two::Are(one, two, last)
+}
+
+// The same with the line's end behind them and the second up to 255.
+pub fn take_tail(line: &[u8], at: usize) -> Tail {
+    let Two::Are(one, two, last) = take_two(line, at) else {
+        return Tail::Bad;
+    };
+    if last != line.len() {
+        return Tail::Bad;
+    }
+    if two > 255 {
+        return Tail::Bad;
+    }
+    Tail::Is(one, two as u8)
+}
+
+// The same where both are up to 255.
+pub fn take_pair(line: &[u8], at: usize) -> Pair {
+    let Tail::Is(one, two) = take_tail(line, at) else {
+        return Pair::Bad;
+    };
+    if one > 255 {
+        return Pair::Bad;
+    }
+    Pair::Are(one as u8, two)
+}

@@ -1,0 +1,91 @@
+// The words of a script's line that are no values: the verb that it begins with, and where a REC ends.
+pub mod rec;
+
+ghost use Prim.Native.Nat.{_≤_};
+ghost use lib.ListN.{length};
+use check::same;
+
+// The place where the line's first token ends.
+pub fn verb_end(line: &[u8]) -> usize
+    ensures { λ r. ⌜ r ≤ length (now (line .entry)) ⌝ }
+{
+    let mut i = 0;
+    while i < line.len() {
+        if line[i] == b' ' {
+            return i;
+        }
+        i += 1;
+    }
+    i
+}
+
+fn is_verb(line: &[u8], at: usize, verb: &[u8]) -> bool
+    requires { ⌜ at ≤ length (now line) ⌝ }
+{
+    same(&line[0..at], verb)
+}
+
+// The verbs, by number.
+pub const FIND: u8 = 1;
+
+pub const BODY: u8 = 2;
+
+pub const VOICE: u8 = 3;
+
+pub const PLAYS: u8 = 4;
+
+pub const PLACE: u8 = 5;
+
+pub const SALVAGE: u8 = 6;
+
+pub const GROUP: u8 = 7;
+
+pub const WRITE: u8 = 8;
+
+pub const EDIT: u8 = 9;
+
+pub const SCREEN: u8 = 10;
+
+// The number of the verb that ends at `at` where it reads, writes or changes records, or 0.
+fn record_verb_of(line: &[u8], at: usize) -> u8
+    requires { ⌜ at ≤ length (now line) ⌝ }
+{
+    if is_verb(line, at, b"group") {
+        return GROUP;
+    }
+    if is_verb(line, at, b"write") {
+        return WRITE;
+    }
+    if is_verb(line, at, b"edit") {
+        return EDIT;
+    }
+    if is_verb(line, at, b"screen") {
+        return SCREEN;
+    }
+    0
+}
+
+// The number of the verb that ends at `at`, or 0 where it is none.
+pub fn verb_of(line: &[u8], at: usize) -> u8
+    requires { ⌜ at ≤ length (now line) ⌝ }
+{
+    if is_verb(line, at, b"find") {
+        return FIND;
+    }
+    if is_verb(line, at, b"body") {
+        return BODY;
+    }
+    if is_verb(line, at, b"voice") {
+        return VOICE;
+    }
+    if is_verb(line, at, b"plays") {
+        return PLAYS;
+    }
+    if is_verb(line, at, b"place") {
+        return PLACE;
+    }
+    if is_verb(line, at, b"salvage") {
+        return SALVAGE;
+    }
+    record_verb_of(line, at)
+}
