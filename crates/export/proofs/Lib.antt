@@ -1,3 +1,1 @@
 pub mod Crossed
-pub mod Flats
-pub mod Laid

@@ -1,13 +1,6 @@
 -- What crosses to C, as the answers of the layout: field by field the same.
-use Prim.Native.Nat.{ℕ}
-use mathlib.Core.Bool.{cond}
 use mathlib.Core.List.{map}
-use lib.Dec.{eqb}
-use Rattle.layout.specs.Records.{bytesOf, recordOf}
-use Rattle.layout.specs.declared.record.SourceChannel.{SourceChannel}
-use Rattle.layout.specs.declared.record.SecondTable.{SecondTable}
-use Rattle.layout.specs.declared.record.SecondTable.the-variants.{Absent, Value}
-use Rattle.layout.specs.declared.record.Record.{Record}
+use Rattle.cross.specs.Rows.{channel, rowOf}
 use Rattle.layout.specs.declared.answer.Answered.{Answered}
 use Rattle.layout.specs.declared.answer.Counted.{Counted}
 use Rattle.layout.specs.declared.answer.Measured.{Measured}
@@ -28,7 +21,6 @@ use Rattle.export.specs.declared.answer.Bounds.{Bounds}
 use Rattle.export.specs.declared.answer.Span.{Span}
 use Rattle.export.specs.declared.answer.Players.{Players}
 use Rattle.export.specs.declared.answer.Note.{Note}
-use Rattle.export.specs.declared.answer.Row.{Row}
 use Rattle.export.specs.declared.answer.Edited.{Edited}
 
 -- accepted or refused
@@ -63,10 +55,6 @@ grouped r = record { number = r .number; place = r .place; group = standing r }
 abbrev pub spanned : Span → Spanned
 spanned r = record { number = r .number; place = r .place; start = r .start; length = r .length }
 
--- a source channel by its number
-abbrev pub channel : ℕ → SourceChannel
-channel n = record { 0 = n }
-
 -- the source channels that play
 abbrev pub played : Players → Played
 played r = record { number = r .number; place = r .place; count = r .count; channels = map channel (r .channels) }
@@ -74,28 +62,6 @@ played r = record { number = r .number; place = r .place; count = r .count; chan
 -- the note, or silence
 abbrev pub placed : Note → Placed
 placed r = record { number = r .number; place = r .place; silent = r .silent; note = r .note }
-
--- the second table of a record: none where the first number is 0, whatever the other is
-unfoldable pub secondOf : ℕ → ℕ → SecondTable
-secondOf has second = cond (eqb has 0) Absent (Value second)
-
--- the record that crosses
-abbrev pub recorded : Row → Record
-recorded r = recordOf (r .bytes) (secondOf (r .has) (r .second))
-
--- whether a second table is there
-unfoldable pub hasOf : SecondTable → ℕ
-hasOf Absent = 0
-hasOf (Value v) = 1
-
--- .. and its value
-unfoldable pub valueOf : SecondTable → ℕ
-valueOf Absent = 0
-valueOf (Value v) = v
-
--- a record as it crosses back
-unfoldable pub rowOf : Record → Row
-rowOf r = record { bytes = bytesOf r; has = hasOf (r .second); second = valueOf (r .second) }
 
 -- a record after one field byte of it was set
 abbrev pub editOf : Changed → Edited

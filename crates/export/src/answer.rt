@@ -1,5 +1,7 @@
 // What crosses to C by value: the answers of the layout field by field, laid out as C lays them out (include/casm.h).
 
+use cross::row::Row;
+
 // Accepted or refused.
 #[repr(C)]
 pub struct Answer {
@@ -80,14 +82,6 @@ pub struct Note {
     pub place: usize,
     pub silent: bool,
     pub note: u8,
-}
-
-// A channel record: bytes 0-25, whether it has a Cntt (0 for none), and the Cntt's value. 28 bytes, as in a flat table.
-#[repr(C)]
-pub struct Row {
-    pub bytes: [u8; 26],
-    pub has: u8,
-    pub second: u8,
 }
 
 // A record after one field byte of it was set; on refusal the record as it was.

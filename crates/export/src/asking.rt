@@ -1,38 +1,14 @@
 // The questions: who plays under a chord, what a voice is called, and where a note goes (document 01, "Who plays", "Placing a note").
-ghost use mathlib.Core.Path.{_≡_};
-ghost use mathlib.Core.List.{map};
 ghost use Rattle.layout.specs.Promises.{PlaysTold, VoiceFound, NotePlaced};
-ghost use Rattle.export.specs.Crossing.{channel, spanned, played, placed, recorded};
+ghost use Rattle.cross.specs.Rows.{recorded};
+ghost use Rattle.export.specs.Crossing.{spanned, played, placed};
 use crate::answer::Note;
 use crate::answer::Players;
-use crate::answer::Row;
 use crate::answer::Span;
-use crate::row::record_of;
+use cross::channels::numbers;
+use cross::row::Row;
+use cross::row::record_of;
 use layout::record::SourceChannel;
-
-// The numbers of sixteen source channels.
-fn numbers(from: [SourceChannel; 16]) -> [u8; 16]
-    ensures { λ r. ⌜ map channel r ≡ from ⌝ }
-{
-    [
-        from[0].0,
-        from[1].0,
-        from[2].0,
-        from[3].0,
-        from[4].0,
-        from[5].0,
-        from[6].0,
-        from[7].0,
-        from[8].0,
-        from[9].0,
-        from[10].0,
-        from[11].0,
-        from[12].0,
-        from[13].0,
-        from[14].0,
-        from[15].0,
-    ]
-}
 
 // The source channels of a part's group that play under a chord root and chord type, in Ctab order.
 #[no_mangle]

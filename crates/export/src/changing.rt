@@ -2,12 +2,13 @@
 ghost use mathlib.Core.Path.{_≡_};
 ghost use Rattle.layout.specs.Promises.{RecordEdited};
 ghost use Rattle.layout.specs.Screen.{fieldSet, changed};
-ghost use Rattle.export.specs.Crossing.{answered, recorded, editOf};
+ghost use Rattle.cross.specs.Rows.{recorded};
+ghost use Rattle.export.specs.Crossing.{answered, editOf};
 use crate::answer::Answer;
 use crate::answer::Edited;
-use crate::answer::Row;
-use crate::row::record_of;
-use crate::row::row_of;
+use cross::row::Row;
+use cross::row::record_of;
+use cross::row::row_of;
 use layout::record::SourceChannel;
 
 // Replaces the record of a group and source channel inside a lent body; its Cntt is neither read nor checked.

@@ -2,7 +2,5 @@
 pub mod answer;
 pub mod asking;
 pub mod changing;
-mod flat;
 pub mod reading;
-mod row;
 pub mod tables;

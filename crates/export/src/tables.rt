@@ -1,13 +1,13 @@
 // Whole groups through flat tables: written from one, and read into one (document 01, "Writing and editing").
 ghost use Rattle.layout.specs.Promises.{GroupWritten};
 ghost use Rattle.export.specs.Crossing.{measured, counted};
-ghost use Rattle.export.specs.Flat.{tableOf, RowsRead};
+ghost use Rattle.flat.specs.Flat.{tableOf, RowsRead};
 use crate::answer::Count;
 use crate::answer::Length;
-use crate::flat::put_rows;
-use crate::flat::records_of;
-use crate::flat::row_count;
-use crate::flat::unused_table;
+use flat::put_rows;
+use flat::records_of;
+use flat::row_count;
+use flat::unused_table;
 
 // Writes one group at the start of a lent buffer, from its Sdec's text and the first `count` records of a flat table; answers its length.
 #[no_mangle]

@@ -1,4 +1,5 @@
 -- The face's answer for the record that the row stands for.
+use Rattle.export.proofs.Crossed.{placed-by}
 use borrow.Author.Needs.{needs}
 use Rattle.export.proofs.asking.casm_place.Statement.{statement}
 use Rattle.export.proofs.asking.casm_place.Tie as tie
@@ -10,7 +11,7 @@ place-note-requires : tie.Need-place-note-requires
 place-note-requires c κs = search needs
 
 returns : tie.Need-returns
-returns c = cc (c .place-note .ensures, c .before .record-of .ensures)
+returns c = placed-by _ _ _ _ _ (c .before .record-of .ensures) (c .place-note .ensures)
 
 pub casm-place-spec : {M : Type 1} → statement M
 casm-place-spec = tie.close (tie.spec record-of-requires place-note-requires returns)

@@ -1,5 +1,5 @@
 -- The face's answer for the record that the row stands for, and its record as a row again.
-use Rattle.export.proofs.Crossed.{edit-told}
+use Rattle.export.proofs.Crossed.{edit-told, changed-by}
 use borrow.Author.Needs.{needs}
 use Rattle.export.proofs.changing.casm_field.Statement.{statement}
 use Rattle.export.proofs.changing.casm_field.Tie as tie
@@ -14,7 +14,7 @@ row-of-requires : tie.Need-row-of-requires
 row-of-requires c κs = search needs
 
 returns : tie.Need-returns
-returns c = edit-told (c .before .before .set-field .result) _ _ (c .row-of .ensures) (cc (c .before .before .set-field .ensures, c .before .before .before .record-of .ensures))
+returns c = edit-told (c .before .before .set-field .result) _ _ (c .row-of .ensures) (changed-by _ _ _ _ _ (c .before .before .before .record-of .ensures) (c .before .before .set-field .ensures))
 
 pub casm-field-spec : {M : Type 1} → statement M
 casm-field-spec =

@@ -1,5 +1,5 @@
 -- The face's promise over the records that were taken out of the flat table.
-use Rattle.export.proofs.Flats.{rows-lent, written-from}
+use Rattle.flat.proofs.Flats.{rows-lent, written-from}
 use borrow.Author.Needs.{needs}
 use Rattle.export.proofs.tables.casm_write.Statement.{statement}
 use Rattle.export.proofs.tables.casm_write.Tie as tie
