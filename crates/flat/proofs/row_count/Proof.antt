@@ -1,7 +1,7 @@
 -- The whole rows, or 32 where there are more.
 use native.Mathlib.Omega.{arith}
-use Rattle.export.proofs.flat.row_count.Statement.{statement}
-use Rattle.export.proofs.flat.row_count.Tie as tie
+use Rattle.flat.proofs.row_count.Statement.{statement}
+use Rattle.flat.proofs.row_count.Tie as tie
 
 returns : tie.Need-returns
 returns c = omega arith
