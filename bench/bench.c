@@ -1,5 +1,5 @@
-/* The proved calls against plain C, in one program: first both are asked the same and must answer alike, then both are timed in turn, and each job's ratio is printed
-   (the median of the rounds; below 1 the proved call is the faster). Built and run by bench/run. */
+/* The proved calls against plain C, in one program: first both are asked the same and must answer alike; then both are timed in turn, and each job's ratio is printed
+   (the median of the rounds; below 1 the proved call is the faster), then what twice the input costs the proved call, and how far down the stack it writes. Built and run by bench/run. */
 #include "plain.h"
 
 enum { ROUNDS = 31 };
@@ -37,11 +37,12 @@ static size_t group(uint8_t *at, unsigned number, unsigned channels, unsigned na
 }
 
 static uint8_t sound[32768], damaged[32768], small[32768], csegs[32768], none[32768], edited[2][32768];
-static size_t sound_size, small_size;
-static uint8_t few[1048576], many[1048576];
+static size_t sound_size, small_size, sound_half, small_half;
+static uint8_t few[1048576], half_few[1048576], many[1048576], half_many[1048576];
 static size_t list[2][24576];
 static uint8_t table[16 * 28], buffer[2][2048];
 static casm_row rows[4096];
+static size_t sections = 8000;
 
 static size_t style(uint8_t *file, size_t sections, size_t filler)
 {
@@ -58,8 +59,8 @@ static size_t style(uint8_t *file, size_t sections, size_t filler)
 
 static void prepare(void)
 {
-    for (unsigned k = 0; k < 32; k++) sound_size += group(sound + sound_size, k, 16, 4);
-    for (unsigned k = 0; k < 32; k++) small_size += group(small + small_size, k, 1, 10);
+    for (unsigned k = 0; k < 32; k++) sound_half = k == 16 ? sound_size : sound_half, sound_size += group(sound + sound_size, k, 16, 4);
+    for (unsigned k = 0; k < 32; k++) small_half = k == 16 ? small_size : small_half, small_size += group(small + small_size, k, 1, 10);
     memcpy(damaged, sound, sizeof damaged);
     for (size_t at = 0, k = 0, size; at < sound_size; at += size, k++) {
         size = 8 + ((size_t)sound[at + 4] << 24 | (size_t)sound[at + 5] << 16 | (size_t)sound[at + 6] << 8 | sound[at + 7]);
@@ -84,6 +85,7 @@ static uint64_t lent(const void *at, size_t size)
 
 static const uint8_t *in;
 static size_t in_size;
+static size_t written = 16; /* records of a group that is written */
 static int checking; /* lent memory is folded in only where answers are compared */
 
 #define FIND(call) { casm_section r = call(in, in_size); return mix(mix(mix(r.number, r.place), r.tag), r.length); }
@@ -101,7 +103,7 @@ static uint64_t plays_plain(void) PLAYS(plain_plays)
 #define PLACE(call) { uint64_t h = 0; for (unsigned i = 0; i < 4096; i++) { casm_note r = call(rows[i], (uint8_t)(i % 12), (uint8_t)(i % 128)); h = mix(h, mix(mix(r.number, r.place), (uint64_t)r.silent << 8 | r.note)); } return h; }
 static uint64_t place_proved(void) PLACE(casm_place)
 static uint64_t place_plain(void) PLACE(plain_place)
-#define WRITE(call, b) { casm_length r = call((const uint8_t *)"Main A,Main B", 13, table, sizeof table, 16, b, 2048); return mix(mix(mix(r.number, r.place), r.length), checking ? lent(b, 2048) : 0); }
+#define WRITE(call, b) { casm_length r = call((const uint8_t *)"Main A,Main B", 13, table, sizeof table, written, b, 2048); return mix(mix(mix(r.number, r.place), r.length), checking ? lent(b, 2048) : 0); }
 static uint64_t write_proved(void) WRITE(casm_write, buffer[0])
 static uint64_t write_plain(void) WRITE(plain_write, buffer[1])
 #define EDIT(call, b) { casm_answer r = call(b, in_size, 15, 7, rows[7]); return mix(mix(r.number, r.place), checking ? lent(b, in_size) : 0); }
@@ -131,6 +133,19 @@ static void alike_damaged(const char *job, const uint8_t *from, size_t size, uin
     }
 }
 
+/* Writing from damaged tables, some of them too short. */
+static void alike_written(int times)
+{
+    uint8_t kept[sizeof table];
+    memcpy(kept, table, sizeof table);
+    for (int i = 0; i < times; i++, memcpy(table, kept, sizeof table)) {
+        for (unsigned k = 0, n = any(3); k < n; k++) table[any(sizeof table)] = (uint8_t)any(256);
+        written = any(3) ? 16 : any(20);
+        alike("write", write_proved, write_plain);
+    }
+    written = 16;
+}
+
 static double now(void)
 {
     struct timespec t;
@@ -150,39 +165,78 @@ static double timed(uint64_t (*call)(void), int calls)
 
 static void job(const char *name, uint64_t (*proved)(void), uint64_t (*plain)(void))
 {
-    double ratios[ROUNDS], times[ROUNDS];
-    int calls = 1;
+    double ratios[ROUNDS], times[ROUNDS], one;
+    int calls = 1, rounds = ROUNDS;
     alike(name, proved, plain);
-    while (timed(plain, calls) * calls < 0.004 && calls < 1000000) calls *= 2;
-    for (int i = 0; i < ROUNDS; i++) {
+    while ((one = timed(plain, calls)) * calls < 0.004 && calls < 1000000) calls *= 2;
+    if (one > 1) rounds = 3;
+    for (int i = 0; i < rounds; i++) {
         double a, b;
         if (i % 2) a = timed(proved, calls), b = timed(plain, calls);
         else b = timed(plain, calls), a = timed(proved, calls);
         ratios[i] = a / b, times[i] = b;
     }
-    qsort(ratios, ROUNDS, sizeof *ratios, by_size);
-    qsort(times, ROUNDS, sizeof *times, by_size);
-    printf("%-44s %5.2f   (quarters %.2f to %.2f; plain C %.2f us)\n", name, ratios[ROUNDS / 2], ratios[ROUNDS / 4], ratios[ROUNDS * 3 / 4], times[ROUNDS / 2] * 1e6);
+    qsort(ratios, (size_t)rounds, sizeof *ratios, by_size);
+    qsort(times, (size_t)rounds, sizeof *times, by_size);
+    printf("%-44s %5.2f   (quarters %.2f to %.2f; plain C %.2f us)\n", name, ratios[rounds / 2], ratios[rounds / 4], ratios[rounds * 3 / 4], times[rounds / 2] * 1e6);
     fflush(NULL);
 }
 
 static void on(const uint8_t *from, size_t size) { in = from, in_size = size; }
 
-int main(int count, char **words)
+/* What the call costs on an input of twice the size: the median of the rounds, each of which times both. */
+static void doubled(const char *name, uint64_t (*call)(void), const uint8_t *half, size_t half_size, size_t half_written, const uint8_t *whole, size_t size)
 {
-    size_t few_size, many_size;
-    prepare();
-    few_size = style(few, 6, 1000000);
-    many_size = style(many, count > 1 ? (size_t)atol(words[1]) : 8000, 0);
-    alike_damaged("find", few, 4096, find_proved, find_plain, 2000);
-    alike_damaged("body", sound, sound_size, body_proved, body_plain, 4000);
-    alike_damaged("body, short texts", small, small_size, body_proved, body_plain, 4000);
-    alike_damaged("salvage", sound, sound_size, salvage_proved, salvage_plain, 300);
-    alike_damaged("plays", sound, sound_size, plays_proved, plays_plain, 2000);
-    alike_damaged("edit", sound, sound_size, edit_proved, edit_plain, 300);
-    printf("alike on damaged inputs; proved time over plain C time:\n");
-    on(few, few_size), job("find, 1 MB, few sections", find_proved, find_plain);
-    on(many, many_size), job("find, many sections", find_proved, find_plain);
+    double ratios[ROUNDS], one;
+    int calls = 1, rounds = ROUNDS;
+    on(whole, size), written = 16;
+    while ((one = timed(call, calls)) * calls < 0.004 && calls < 1000000) calls *= 2;
+    if (one > 1) rounds = 3;
+    for (int i = 0; i < rounds; i++) {
+        on(half, half_size), written = half_written;
+        double a = timed(call, calls);
+        on(whole, size), written = 16;
+        ratios[i] = timed(call, calls) / a;
+    }
+    qsort(ratios, (size_t)rounds, sizeof *ratios, by_size);
+    printf("%-44s %5.2f\n", name, ratios[rounds / 2]);
+    fflush(NULL);
+}
+
+/* How far below its caller's frame a call writes: the stack is painted, the call made, and the deepest byte that changed is looked for. The wrapper's own frame counts. */
+enum { PAINTED = 65536 };
+static __attribute__((noinline)) void paint(void)
+{
+    volatile uint8_t area[PAINTED];
+    for (size_t i = 0; i < PAINTED; i++) area[i] = 0xA5;
+}
+static __attribute__((noinline)) size_t depth(void)
+{
+    volatile uint8_t area[PAINTED];
+    size_t i = 0;
+    while (i < PAINTED && area[i] == 0xA5) i++;
+    return PAINTED - i;
+}
+static void stack(const char *name, uint64_t (*call)(void))
+{
+    paint();
+    sink += call();
+    printf("%-44s %5lu\n", name, depth());
+}
+
+/* The calls that are not timed, for their stack. */
+static uint64_t part_proved(void) { return casm_part(in, in_size, (const uint8_t *)"Part B5 3", 9).group; }
+static uint64_t group_proved(void) { return casm_group(in, in_size, 15).number; }
+static uint64_t voice_proved(void) { return casm_voice(in, in_size, 15, 7).number; }
+static uint64_t note_proved(void) { return casm_place(rows[7], 7, 60).note; }
+static uint64_t field_proved(void) { return casm_field(rows[7], 1, 65).number; }
+static uint64_t records_proved(void) { return casm_records(in, in_size, 15, table, sizeof table).count; }
+
+static void ratios(void)
+{
+    printf("proved time over plain C time:\n");
+    on(few, style(few, 6, 1000000)), job("find, 1 MB, few sections", find_proved, find_plain);
+    on(many, style(many, sections, 0)), job("find, many sections", find_proved, find_plain);
     on(sound, sound_size), job("strict body, 32 groups of 16 channels", body_proved, body_plain);
     on(small, small_size), job("strict body, 32 groups, ten names each", body_proved, body_plain);
     on(sound, sound_size), job("salvage, sound", salvage_proved, salvage_plain);
@@ -194,5 +248,54 @@ int main(int count, char **words)
     job("write, 16 records", write_proved, write_plain);
     memcpy(edited[0], sound, sizeof sound), memcpy(edited[1], sound, sizeof sound);
     on(sound, sound_size), job("edit", edit_proved, edit_plain);
+}
+
+static void growth(void)
+{
+    printf("the proved call on twice the input, over the half:\n");
+    doubled("find, 0.5 to 1 MB, few sections", find_proved, half_few, style(half_few, 6, 500000), 16, few, style(few, 6, 1000000));
+    doubled("find, sections doubled", find_proved, half_many, style(half_many, sections / 2, 0), 16, many, style(many, sections, 0));
+    doubled("strict body, 16 to 32 groups of 16 channels", body_proved, sound, sound_half, 16, sound, sound_size);
+    doubled("strict body, 16 to 32 groups, ten names each", body_proved, small, small_half, 16, small, small_size);
+    doubled("salvage, sound", salvage_proved, sound, sound_half, 16, sound, sound_size);
+    doubled("salvage, every second group damaged", salvage_proved, damaged, sound_half, 16, damaged, sound_size);
+    doubled("salvage, 4,096 to 8,192 times CSEG", salvage_proved, csegs, sizeof csegs / 2, 16, csegs, sizeof csegs);
+    doubled("salvage, 16 to 32 KiB with no CSEG", salvage_proved, none, sizeof none / 2, 16, none, sizeof none);
+    doubled("who plays, 16 to 32 groups", plays_proved, sound, sound_half, 16, sound, sound_size);
+    doubled("write, 8 to 16 records", write_proved, NULL, 0, 8, NULL, 0);
+    doubled("edit, 16 to 32 groups", edit_proved, edited[0], sound_half, 16, edited[0], sound_size);
+}
+
+static void stacks(void)
+{
+    printf("bytes of stack that a call writes below its caller, this program's wrapper included:\n");
+    on(few, style(few, 6, 1000000)), stack("casm_find", find_proved);
+    on(sound, sound_size), stack("casm_body", body_proved);
+    stack("casm_salvage", salvage_proved);
+    stack("casm_part", part_proved);
+    stack("casm_group", group_proved);
+    stack("casm_voice", voice_proved);
+    stack("casm_plays", plays_proved);
+    stack("casm_edit", edit_proved);
+    stack("casm_place", note_proved);
+    stack("casm_field", field_proved);
+    stack("casm_write", write_proved);
+    stack("casm_records (a table of 32 records by value)", records_proved);
+}
+
+int main(int count, char **words)
+{
+    if (count > 1) sections = (size_t)atol(words[1]);
+    prepare();
+    style(few, 6, 1000000);
+    alike_damaged("find", few, 4096, find_proved, find_plain, 2000);
+    alike_damaged("body", sound, sound_size, body_proved, body_plain, 4000);
+    alike_damaged("body, short texts", small, small_size, body_proved, body_plain, 4000);
+    alike_damaged("salvage", sound, sound_size, salvage_proved, salvage_plain, 300);
+    alike_damaged("plays", sound, sound_size, plays_proved, plays_plain, 2000);
+    alike_damaged("edit", sound, sound_size, edit_proved, edit_plain, 300);
+    alike_written(2000);
+    printf("alike on damaged inputs\n");
+    ratios(), growth(), stacks();
     return 0;
 }

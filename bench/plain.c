@@ -121,8 +121,6 @@ static struct fault read_group(const uint8_t *p, size_t n, struct group *g)
 
 /* ---- a body */
 
-struct names { const uint8_t *text; size_t length; };
-
 static _Bool has_name(const uint8_t *t, size_t n, const uint8_t *name, size_t size)
 {
     for (size_t i = 0, from = 0; i <= n; i++)
@@ -133,18 +131,24 @@ static _Bool has_name(const uint8_t *t, size_t n, const uint8_t *name, size_t si
     return 0;
 }
 
-static _Bool shares(const uint8_t *t, size_t n, const uint8_t *u, size_t m)
+/* Whether one of the k groups before has a name of this text. A name whose mark is not set is new; most are, so that few names are compared. */
+static _Bool named_before(const uint8_t *s, const struct group *groups, const size_t *places, size_t k, const uint8_t *t, size_t n, uint8_t *marks)
 {
-    for (size_t i = 0, from = 0; i <= m; i++)
-        if (i == m || u[i] == ',') {
-            if (has_name(t, n, u + from, i - from)) return 1;
-            from = i + 1;
-        }
+    for (size_t i = 0, from = 0, mark = 0; i <= n; i++) {
+        if (i < n && t[i] != ',') { mark = mark * 31 + t[i]; continue; }
+        mark %= 2048;
+        if (marks[mark])
+            for (size_t j = 0; j < k; j++)
+                if (has_name(s + places[j] + 16, groups[j].length, t + from, i - from)) return 1;
+        marks[mark] = 1;
+        from = i + 1, mark = 0;
+    }
     return 0;
 }
 
 static struct fault read_groups(const uint8_t *s, size_t size, struct group *groups, size_t *places, size_t *count)
 {
+    uint8_t marks[2048] = {0};
     size_t k = 0;
     if (size > BODY_LIMIT) return FAULT(3, 0);
     for (size_t at = 0; at != size; k++) {
@@ -156,8 +160,7 @@ static struct fault read_groups(const uint8_t *s, size_t size, struct group *gro
         }
         struct fault f = read_group(s + at, size - at, &groups[k]);
         if (f.number) return f.place += at, f;
-        for (size_t j = 0; j < k; j++)
-            if (shares(s + places[j] + 16, groups[j].length, s + at + 16, groups[k].length)) return FAULT(13, at);
+        if (named_before(s, groups, places, k, s + at + 16, groups[k].length, marks)) return FAULT(13, at);
         places[k] = at;
         at += groups[k].size;
     }

@@ -5,7 +5,6 @@ ghost use Rattle.flat.specs.Flat.{tableOf, RowsRead};
 use crate::answer::Count;
 use crate::answer::Length;
 use flat::put_rows;
-use flat::records_of;
 use flat::row_count;
 use flat::unused_table;
 
@@ -14,9 +13,7 @@ use flat::unused_table;
 pub extern "C" fn casm_write(text: &[u8], flat: &[u8], count: usize, out: &mut [u8]) -> Length
     ensures { λ r. ⌜ GroupWritten (now (text .entry)) (tableOf (now (flat .entry))) count (now (out .entry)) (measured r) (now (out .exit)) ⌝ }
 {
-    let n = row_count(flat.len());
-    let table = records_of(flat, n);
-    let x = bridge::write::write_with(text, table, n, count, out);
+    let x = rows::write_rows(text, flat, count, out);
     Length {
         number: x.number,
         place: x.place,

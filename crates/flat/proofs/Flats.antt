@@ -12,7 +12,6 @@ use Rattle.layout.specs.declared.record.SecondTable.{SecondTable}
 use Rattle.layout.specs.declared.record.Record.{Record}
 use Rattle.layout.specs.declared.answer.Measured.{Measured}
 use Rattle.layout.proofs.Lists.{rows-length}
-use Rattle.casm.proofs.RecordLaws.{filled}
 use Rattle.cross.specs.Rows.{secondOf}
 use Rattle.flat.specs.Flat.{lentRows, recordIn, flatRecord, tableOf}
 
@@ -26,16 +25,3 @@ record-at-is flat i r h = let z : 28 * i + 28 - 28 * i ≡ 28 = omega arith in r
 
 pub rows-lent : (n size : ℕ) → n ≡ lentRows size → (n ≤ 32) × (28 * n ≤ size)
 rows-lent n size e = (omega (arith, e), omega (arith, e))
-
--- a group written from the records that were taken out of a flat table
-pub written-from : (text flat : List ℕ) (records : List Record) (n count : ℕ) (before after : List ℕ) (r : Measured)
-    → n ≡ lentRows (length flat) → take n records ≡ rows (flatRecord flat) 0 n
-    → GroupWritten text (take n records) count before r after → GroupWritten text (tableOf flat) count before r after
-written-from text flat records n count before after r e h p =
-    subst (λ (t : List Record). GroupWritten text t count before r after) (h ∙ ap (rows (flatRecord flat) 0) e) p
-
--- all n are there when the last is stored
-pub all-filled : {A : Type 0} (f : ℕ → A) (n i : ℕ) (t ys : List A) → t ≡ filled f i ys → i ≤ n → n ≤ i → take n t ≡ rows f 0 n
-all-filled f n i t ys e l g =
-    let z : i ≡ n = omega arith in
-    ap (take n) (e ∙ ap (λ (m : ℕ). filled f m ys) z) ∙ take-at (rows f 0 n) (drop n ys) n (rows-length f 0 n)

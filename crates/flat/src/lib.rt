@@ -3,7 +3,6 @@ ghost use mathlib.Core.Path.{_≡_};
 ghost use Prim.Native.Nat.{_+_, _*_, _≤_};
 ghost use mathlib.Core.List.{_++_, flatMap};
 ghost use lib.ListN.{length, take, drop};
-ghost use Rattle.layout.specs.Lists.{rows};
 ghost use Rattle.flat.specs.Flat.{lentRows, recordIn, flatRecord, rowBytes};
 use cross::row::row_of;
 use cross::row::second_of;
@@ -27,7 +26,7 @@ fn record_in(part: &[u8]) -> Record
 }
 
 // Record number i.
-fn record_at(flat: &[u8], i: usize) -> Record
+pub fn record_at(flat: &[u8], i: usize) -> Record
     requires { ⌜ 28 * i + 28 ≤ length (now flat) ⌝ }
     ensures { λ r. ⌜ r ≡ flatRecord (now (flat .entry)) i ⌝ }
 {
@@ -38,26 +37,11 @@ fn record_at(flat: &[u8], i: usize) -> Record
 
 // What a table holds past its last record.
 fn unused() -> Record {
-    casm::bytes::record_of([0; 26], SecondTable::Absent)
+    record::held::record_of(&[0; 26], SecondTable::Absent)
 }
 
 pub fn unused_table() -> [Record; 32] {
     [unused(); 32]
-}
-
-// The first n records, in a table of 32.
-pub fn records_of(flat: &[u8], n: usize) -> [Record; 32]
-    requires { ⌜ n ≤ 32 ⌝ }
-    requires { ⌜ 28 * n ≤ length (now flat) ⌝ }
-    ensures { λ r. ⌜ take n r ≡ rows (flatRecord (now (flat .entry))) 0 n ⌝ }
-{
-    let mut table = unused_table();
-    let mut i: usize = 0;
-    while i < n {
-        table[i] = record_at(flat, i);
-        i += 1;
-    }
-    table
 }
 
 // Writes a record's 28 bytes at the start of what is lent.

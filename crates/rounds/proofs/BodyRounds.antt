@@ -19,8 +19,8 @@ use Rattle.layout.proofs.Groups.{cseg-tag}
 use Rattle.layout.proofs.Bodies.{turn-end, turn-sound, Accepted, body-within}
 use Rattle.rounds.specs.Rounds.{Bytes, groupsOf, BodyAllowed}
 use Rattle.rounds.proofs.Runs.{ran-run}
-use Rattle.layout.proofs.Lists.{rows-length}
-use Rattle.rounds.proofs.Blocks.{moved, getD-rows, rows-is, blocks-read, blocks-written}
+use Rattle.layout.proofs.Lists.{rows-length, getD-rows}
+use Rattle.rounds.proofs.Blocks.{moved, rows-is, blocks-read, blocks-written}
 use Rattle.rounds.proofs.Chunks.{bytes-drop}
 use Rattle.rounds.proofs.GroupRounds.{group-allowed, group-back}
 use Rattle.rounds.proofs.GroupThere.{there-sound, there-size, there-value, there-fits, there-ends, there-head, there-text}

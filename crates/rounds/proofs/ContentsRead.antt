@@ -20,13 +20,13 @@ use Rattle.layout.proofs.Heads.{head-sound}
 use Rattle.layout.proofs.Ctabs.{CtabMore, turn-more}
 use Rattle.layout.proofs.Cntts.{CnttMore, cntt-turn-more}
 use Rattle.layout.proofs.Groups.{Contents}
-use Rattle.layout.proofs.Lists.{rows-length}
+use Rattle.layout.proofs.Lists.{rows-length, getD-rows}
 use Rattle.layout.proofs.Sixteen.{channels-apart}
 use Rattle.layout.proofs.RecordBytes.{record-channel}
 use Rattle.rounds.specs.Rounds.{Bytes}
 use Rattle.rounds.proofs.RecordBack.{read-bytes, read-whole}
 use Rattle.rounds.proofs.Runs.{run-ran}
-use Rattle.rounds.proofs.Blocks.{moved, getD-rows, blocks-read}
+use Rattle.rounds.proofs.Blocks.{moved, blocks-read}
 use Rattle.rounds.proofs.Chunks.{chunk-read}
 use Rattle.layout.proofs.Pigeonhole.{Apart}
 use Rattle.rounds.proofs.Follows.{pairBytes, ownCntt, valueOn, cntts-written}

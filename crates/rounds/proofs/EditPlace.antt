@@ -14,8 +14,8 @@ use Rattle.layout.specs.Write.{groupBytes, Allowed}
 use Rattle.layout.proofs.Scans.{first-stands}
 use Rattle.layout.proofs.Bodies.{Accepted}
 use Rattle.rounds.specs.Rounds.{Bytes, groupsOf}
-use Rattle.layout.proofs.Lists.{rows-length}
-use Rattle.rounds.proofs.Blocks.{getD-rows, block-place}
+use Rattle.layout.proofs.Lists.{rows-length, getD-rows}
+use Rattle.rounds.proofs.Blocks.{block-place}
 use Rattle.rounds.proofs.GroupThere.{there-sound, there-size, there-ends, there-channel}
 use Rattle.rounds.proofs.BodyRounds.{allowed-of, bytes-of}
 

@@ -57,9 +57,8 @@ use Rattle.plan.specs.Chunks.{chunkOf, chunksOf}
 use Rattle.layout.proofs.record.Record as T
 use Rattle.layout.proofs.record.Record.Laws as T′
 use Rattle.lent.proofs.Again.{LentAgain, lends-again, comes-back}
-use Rattle.plan.proofs.Passes.{chunks-next}
+use Rattle.plan.proofs.Passes.{chunks-none, chunks-most, chunks-next}
 use Rattle.layout.proofs.Replaced.{replaced-none, replaced-length, replaced-twice}
-use Rattle.lent.proofs.Passes.{chunks-none, chunks-most}
 use Rattle.write.proofs.chunks.put_chunk as put
 use Rattle.write.proofs.chunks.put_chunk.Symbol as put-def
 use Rattle.write.proofs.chunks.put_chunk.Symbol.{name as #write·put-chunk}
