@@ -18,7 +18,7 @@ use Rattle.layout.specs.declared.answer.Standing.{Standing}
 use Rattle.layout.proofs.Bodies.{Accepted, GroupMore, body-accepted, group-there}
 use Rattle.body.specs.declared.find.Search.{Search}
 use Rattle.body.specs.declared.find.Search.the-variants.{Refused, Missing, Found}
-use Rattle.body.specs.Find.{among, groupLocated, partLocated}
+use Rattle.body.specs.Find.{among, numbered, groupLocated, partLocated}
 
 -- the parts of a group stand within the body
 pub record Within (s : List ℕ) (x : Standing) : Type 0 where
@@ -46,7 +46,7 @@ pub record There (s : List ℕ) (k : ℕ) (x : Standing) : Type 0 where
 
 -- a look among n groups at number k, which is none of them or stands somewhere
 abbrev look : List ℕ → (ℕ → ℕ) → ℕ → Search
-look s k n = cond (leb n (k n)) Missing (Found (k n) (standing s (k n)))
+look s k n = numbered s n (k n)
 
 module _ (s : List ℕ) (k : ℕ → ℕ) where
   refusing : (a b : ℕ) (r : Run) → among r (look s k) ≡ Refused a b → r ≡ Stopped a b

@@ -20,13 +20,30 @@ use Rattle.layout.proofs.Numbers.{word-drop}
 use Rattle.layout.proofs.Scans.{first-end, first-here, first-next, first-within}
 use Rattle.body.specs.declared.find.Search.the-variants.{Refused, Missing, Found}
 use Rattle.body.specs.Known.{Places, Insides}
-use Rattle.body.specs.Find.{groupLocated, partLocated}
+use Rattle.body.specs.Find.{numbered, groupLocated, partLocated}
 
 -- the numbers of a sound group
 pub standing-is : (s : List ℕ) (at l w c m : ℕ) → groupAt (drop at s) ≡ Sound (word s (at + 12)) c m → l ≡ word s (at + 12) → w ≡ word s (at + 4)
     → _≡_ {A = Standing} (record { at = at; size = 8 + w; text = at + 16; length = l; ctabs = at + 16 + l; records = c; cntts = at + 16 + l + 35 * c; seconds = m }) (standingAt s at (groupAt (drop at s)))
 unfolding standingAt groupSize
 standing-is s at l w c m e f g = rw (e, standingAt) (rw (f, g, word-drop s at 4))
+
+-- ---- group number k of n, by what the tables have of it
+
+module _ (s : List ℕ) (n : ℕ) where
+  pub number-missing : (k : ℕ) → n ≤ k → numbered s n k ≡ Missing
+  number-missing k h = rw (le-leb n k h)
+
+  module _ (places records seconds : List ℕ) (ps : Places s n places) (is : Insides s n records seconds) (k : ℕ) (h : k < n) where
+    pub entry-sound : groupAt (drop (getD places k 0) s) ≡ Sound (word s (getD places k 0 + 12)) (getD records k 0) (getD seconds k 0)
+    entry-sound = rw (ps .place k h) (is .sound k h)
+
+    pub entry-within : getD places k 0 ≤ length s
+    entry-within = omega (arith, ps .fits k h, ps .place k h)
+
+    pub number-found : (x : Standing) → x ≡ standingAt s (getD places k 0) (groupAt (drop (getD places k 0) s)) → numbered s n k ≡ Found k x
+    unfolding standing
+    number-found x q = rw (lt-leb n k h, ← (ps .place k h), ← q)
 
 -- ---- the ways out of a search
 
@@ -41,34 +58,13 @@ module _ (s : List ℕ) where
     part-refused name = rw e
 
   module _ (n : ℕ) (e : bodyRun s ≡ Ended n) where
-    pub group-missing : (g : ℕ) → n ≤ g → groupLocated s g ≡ Missing
+    pub group-asked : (g : ℕ) → groupLocated s g ≡ numbered s n g
     unfolding groupLocated
-    group-missing g h = rw (e, le-leb n g h)
+    group-asked g = rw e
 
-    pub part-missing : (name : List ℕ) (k : ℕ) → k ≡ groupNamed s n name → n ≤ k → partLocated s name ≡ Missing
+    pub part-asked : (name : List ℕ) (k : ℕ) → k ≡ groupNamed s n name → partLocated s name ≡ numbered s n k
     unfolding partLocated
-    part-missing name k q h = rw (e, ← q, le-leb n k h)
-
-    module _ (places records seconds : List ℕ) (ps : Places s n places) (is : Insides s n records seconds) where
-      -- the table's entries are those of group number g
-      pub entry-sound : (g : ℕ) → g < n → groupAt (drop (getD places g 0) s) ≡ Sound (word s (getD places g 0 + 12)) (getD records g 0) (getD seconds g 0)
-      entry-sound g h = rw (ps .place g h) (is .sound g h)
-
-      pub entry-within : (g : ℕ) → g < n → getD places g 0 ≤ length s
-      entry-within g h = omega (arith, ps .fits g h, ps .place g h)
-
-      there : (g : ℕ) → g < n → standingAt s (getD places g 0) (groupAt (drop (getD places g 0) s)) ≡ standing s g
-      unfolding standing
-      there g h = rw (ps .place g h)
-
-      pub group-found : (g : ℕ) (x : Standing) → g < n → x ≡ standingAt s (getD places g 0) (groupAt (drop (getD places g 0) s)) → groupLocated s g ≡ Found g x
-      unfolding groupLocated
-      group-found g x h q = rw (e, lt-leb n g h, ← (there g h), ← q)
-
-      pub part-found : (name : List ℕ) (k : ℕ) (x : Standing) → k ≡ groupNamed s n name → k < n → x ≡ standingAt s (getD places k 0) (groupAt (drop (getD places k 0) s))
-          → partLocated s name ≡ Found k x
-      unfolding partLocated
-      part-found name k x r h q = rw (e, ← r, lt-leb n k h, ← (there k h), ← q)
+    part-asked name k q = rw (e, q)
 
 -- ---- the group that has a part
 

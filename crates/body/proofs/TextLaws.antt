@@ -14,10 +14,10 @@ use Rattle.layout.specs.Body.{groupPlace, textAt, sharing}
 use Rattle.layout.proofs.Scans.{first-end, first-here, first-next}
 use Rattle.body.specs.Known.{Places}
 
--- the part from b on, 16 bytes after the tag, is the text
-pub text-there : (s : List ℕ) (at b l : ℕ) → b ≡ at + 16 → l ≡ word s (at + 12) → take (b + l - b) (drop b s) ≡ textAt s at
+-- the part from 16 bytes after the tag on is the text
+pub text-there : (s : List ℕ) (at l : ℕ) → l ≡ word s (at + 12) → take (at + 16 + l - (at + 16)) (drop (at + 16) s) ≡ textAt s at
 unfolding textAt
-text-there s at b l e f = let z : b + l - b ≡ word s (at + 12) = omega arith in rw (z, e)
+text-there s at l e = let z : at + 16 + l - (at + 16) ≡ word s (at + 12) = omega arith in rw z
 
 -- group number k has a name of the group at `at`
 unfoldable pub sharesWith : List ℕ → ℕ → ℕ → Bool
@@ -46,10 +46,8 @@ module _ (s : List ℕ) (n at : ℕ) where
 
 -- the text of a group whose place the table has
 module _ (s ps : List ℕ) (n k : ℕ) (known : Places s n ps) (l : k < n) where
-  pub text-fits : getD ps k 0 + 16 + word s (getD ps k 0 + 16 - 4) ≤ length s
-  text-fits = let z : getD ps k 0 + 16 - 4 ≡ getD ps k 0 + 12 = omega arith in rw z (rw (known .place k l) (known .fits k l))
+  pub text-fits : getD ps k 0 + 16 + word s (getD ps k 0 + 12) ≤ length s
+  text-fits = rw (known .place k l) (known .fits k l)
 
-  pub text-part : (w : ℕ) → w ≡ word s (getD ps k 0 + 16 - 4) → take (getD ps k 0 + 16 + w - (getD ps k 0 + 16)) (drop (getD ps k 0 + 16) s) ≡ textAt s (groupPlace s k)
-  text-part w e =
-      let z : getD ps k 0 + 16 - 4 ≡ getD ps k 0 + 12 = omega arith in
-      text-there s (getD ps k 0) (getD ps k 0 + 16) w refl (rw z at e) ∙ ap (textAt s) (known .place k l)
+  pub text-part : (t : List ℕ) → t ≡ textAt s (getD ps k 0) → t ≡ textAt s (groupPlace s k)
+  text-part t e = e ∙ ap (textAt s) (known .place k l)

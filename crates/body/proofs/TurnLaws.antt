@@ -45,8 +45,8 @@ module _ (s : List ℕ) (at f : ℕ) (e : f ≡ headFault s at (four 0x43534547)
         omega (arith, contents-place (inside s at l) number place c, length-take (at + 8 + l - (at + 8)) (drop (at + 8) s), length-drop (at + 8) s)
 
     -- the text of a sound group, and where it ends
-    pub text-is : (t c m : ℕ) → (l ≡ 0 → ⊥) → contents (inside s at l) ≡ Sound t c m → (t ≡ word s (at + 12)) × (at + 16 + t ≤ length s)
-    text-is t c m d is = let g = group-there s 0 at t c m h (there-sound s at f h e z l q d t c m is) in (g .0, omega (arith, g .1 .0, g .1 .1))
+    pub text-is : (t c m : ℕ) → (l ≡ 0 → ⊥) → contents (inside s at l) ≡ Sound t c m → (t ≡ word s (at + 12)) × (at + 16 + word s (at + 12) ≤ length s)
+    text-is t c m d is = let g = group-there s 0 at t c m h (there-sound s at f h e z l q d t c m is) in (g .0, omega (arith, g .0, g .1 .0, g .1 .1))
 
 -- ---- the ways out of a turn
 

@@ -14,10 +14,14 @@ abbrev pub among : Run → (ℕ → Search) → Search
 among (Stopped number place) look = Refused number place
 among (Ended n) look = look n
 
+-- group number k of n
+abbrev pub numbered : List ℕ → ℕ → ℕ → Search
+numbered s n k = cond (leb n k) Missing (Found k (standing s k))
+
 -- group number g
 unfoldable pub groupLocated : List ℕ → ℕ → Search
-groupLocated s g = among (bodyRun s) (λ n. cond (leb n g) Missing (Found g (standing s g)))
+groupLocated s g = among (bodyRun s) (λ n. numbered s n g)
 
 -- the group that has the part
 unfoldable pub partLocated : List ℕ → List ℕ → Search
-partLocated s name = among (bodyRun s) (λ n. cond (leb n (groupNamed s n name)) Missing (Found (groupNamed s n name) (standing s (groupNamed s n name))))
+partLocated s name = among (bodyRun s) (λ n. numbered s n (groupNamed s n name))

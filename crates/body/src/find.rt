@@ -7,9 +7,10 @@ ghost use Rattle.layout.specs.Ranges.{firstEdition};
 ghost use Rattle.layout.specs.Group.{ctabOf, groupAt};
 ghost use Rattle.layout.specs.Body.{groupNamed, standingAt};
 ghost use Rattle.layout.specs.declared.turn.Judged.the-variants.{Sound};
-ghost use Rattle.body.specs.Known.{Places};
-ghost use Rattle.body.specs.Find.{groupLocated, partLocated};
+ghost use Rattle.body.specs.Known.{Places, Insides};
+ghost use Rattle.body.specs.Find.{numbered, groupLocated, partLocated};
 use crate::survey::read_groups;
+use crate::survey::text_at;
 use layout::answer::Standing;
 use layout::turn::Run;
 
@@ -42,6 +43,25 @@ fn standing_at(s: &[u8], at: usize, records: usize, seconds: usize) -> Standing
     }
 }
 
+// Group number k of n, by the tables of what is known of them.
+fn group_numbered(
+    s: &[u8],
+    n: usize,
+    places: &[usize; 32],
+    records: &[usize; 32],
+    seconds: &[usize; 32],
+    k: usize,
+) -> Search
+    requires { ⌜ (n ≤ 32) × (Places (now s) n (now places) × Insides (now s) n (now records) (now seconds)) ⌝ }
+    ensures { λ r. ⌜ r ≡ numbered (now (s .entry)) n k ⌝ }
+{
+    if n <= k {
+        return Search::Missing;
+    }
+    let standing = standing_at(s, places[k], records[k], seconds[k]);
+    Search::Found(k, standing)
+}
+
 // A group by its number.
 pub fn find_group(s: &[u8], group: usize) -> Search
     ensures { λ r. ⌜ r ≡ groupLocated (now (s .entry)) group ⌝ }
@@ -53,13 +73,7 @@ pub fn find_group(s: &[u8], group: usize) -> Search
     let run = read.run;
     match run {
         Run::Stopped(number, place) => Search::Refused(number, place),
-        Run::Ended(n) => {
-            if n <= group {
-                return Search::Missing;
-            }
-            let standing = standing_at(s, places[group], records[group], seconds[group]);
-            Search::Found(group, standing)
-        }
+        Run::Ended(n) => group_numbered(s, n, &places, &records, &seconds, group),
     }
 }
 
@@ -70,9 +84,7 @@ fn group_named(s: &[u8], n: usize, places: &[usize; 32], name: &[u8]) -> usize
 {
     let mut k: usize = 0;
     while k < n {
-        let start = places[k] + 16;
-        let end = start + scan::word_at(s, start - 4);
-        if names::has_name(&s[start..end], name) {
+        if names::has_name(text_at(s, places[k]), name) {
             return k;
         }
         k += 1;
@@ -93,11 +105,7 @@ pub fn find_part(s: &[u8], name: &[u8]) -> Search
         Run::Stopped(number, place) => Search::Refused(number, place),
         Run::Ended(n) => {
             let k = group_named(s, n, &places, name);
-            if n <= k {
-                return Search::Missing;
-            }
-            let standing = standing_at(s, places[k], records[k], seconds[k]);
-            Search::Found(k, standing)
+            group_numbered(s, n, &places, &records, &seconds, k)
         }
     }
 }

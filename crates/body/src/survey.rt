@@ -4,7 +4,7 @@ ghost use Prim.Native.Nat.{_+_, _≤_};
 ghost use lib.Dec.{ltb};
 ghost use lib.ListN.{length};
 ghost use Rattle.layout.specs.Bytes.{word};
-ghost use Rattle.layout.specs.Body.{groupPlace, sharing};
+ghost use Rattle.layout.specs.Body.{groupPlace, textAt, sharing};
 ghost use Rattle.body.specs.Known.{Places, GroupTurned, Surveyed};
 use layout::turn::Judged;
 use layout::turn::Run;
@@ -25,18 +25,25 @@ pub struct Survey {
     pub seconds: [usize; 32],
 }
 
-// Whether one of the n groups before has a name of the group at `at`, whose text has so many bytes.
-fn is_named_before(s: &[u8], n: usize, places: &[usize; 32], at: usize, text: usize) -> bool
-    requires { ⌜ (n ≤ 32) × (Places (now s) n (now places) × ((text ≡ word (now s) (at + 12)) × (at + 16 + text ≤ length (now s)))) ⌝ }
-    ensures { λ r. ⌜ r ≡ ltb (sharing (now (s .entry)) n at) n ⌝ }
+// The text of the group at `at`, where it lies.
+pub(crate) fn text_at<'a>(s: &'a [u8], at: usize) -> &'a [u8]
+    requires { ⌜ at + 16 + word (now s) (at + 12) ≤ length (now s) ⌝ }
+    ensures { λ r. ⌜ now r ≡ textAt (now (s .entry)) at ⌝ }
 {
     let start = at + 16;
-    let end = start + text;
+    let end = start + scan::word_at(s, at + 12);
+    &s[start..end]
+}
+
+// Whether one of the n groups before has a name of the group at `at`.
+fn is_named_before(s: &[u8], n: usize, places: &[usize; 32], at: usize) -> bool
+    requires { ⌜ (n ≤ 32) × (Places (now s) n (now places) × (at + 16 + word (now s) (at + 12) ≤ length (now s))) ⌝ }
+    ensures { λ r. ⌜ r ≡ ltb (sharing (now (s .entry)) n at) n ⌝ }
+{
+    let text = text_at(s, at);
     let mut k: usize = 0;
     while k < n {
-        let before = places[k] + 16;
-        let after = before + scan::word_at(s, before - 4);
-        if names::is_sharing(&s[before..after], &s[start..end]) {
+        if names::is_sharing(text_at(s, places[k]), text) {
             return true;
         }
         k += 1;
@@ -79,8 +86,8 @@ fn group_turn(s: &[u8], n: usize, at: usize, places: &[usize; 32]) -> Turned
     let end = start + length;
     match group::judge_contents(&s[start..end]) {
         Judged::Unsound(number, place) => ending(Turn::Refused(number, start + place)),
-        Judged::Sound(text, records, seconds) => {
-            if is_named_before(s, n, places, at, text) {
+        Judged::Sound(_, records, seconds) => {
+            if is_named_before(s, n, places, at) {
                 return ending(Turn::Refused(13, at));
             }
             Turned {

@@ -1,7 +1,6 @@
 -- The body read once; the tables have what is known of its groups.
 use mathlib.Core.Path.{sym, _∙_}
-use native.Mathlib.Omega.{arith}
-use Rattle.body.proofs.FindLaws.{group-refused, group-missing, group-found, entry-sound, entry-within}
+use Rattle.body.proofs.FindLaws.{group-refused, group-asked}
 use borrow.Author.Needs.{needs}
 use Rattle.body.proofs.find.find_group.Statement.{statement}
 use Rattle.body.proofs.find.find_group.Tie as tie
@@ -15,71 +14,18 @@ enum-known-run c = search needs
 enum-known-run-2 : tie.Need-enum-known-run-2
 enum-known-run-2 c = search needs
 
+group-numbered-requires : tie.Need-group-numbered-requires
+group-numbered-requires c κs =
+    let r = c .before .before .before .before in
+    r .before .before .before .before .before .read-groups .ensures .known _ (r .run2 .given .1)
+
 returns : tie.Need-returns
-returns c =
-    let g = c .before .before .before .before .before .before .before .read-groups in
-    let told = c .before .before .run2 .given .1 in
-    let k = g .ensures .known _ told in
-    sym (group-missing _ _ (sym (g .ensures .run) ∙ told) _ (omega arith))
-
-mul-standing-at : tie.Need-mul-standing-at
-mul-standing-at c =
-    let g = c .before .before .before .before .before .before .before .read-groups in
-    let told = c .before .before .run2 .given .1 in
-    let k = g .ensures .known _ told in
-    omega (arith, k .0)
-
-array-read-standing-at : tie.Need-array-read-standing-at
-array-read-standing-at c =
-    let g = c .before .before .before .before .before .before .before .read-groups in
-    let told = c .before .before .run2 .given .1 in
-    let k = g .ensures .known _ told in
-    omega (arith, k .0)
-
-mul-standing-at-2 : tie.Need-mul-standing-at-2
-mul-standing-at-2 c =
-    let g = c .before .before .before .before .before .before .before .read-groups in
-    let told = c .before .before .run2 .given .1 in
-    let k = g .ensures .known _ told in
-    omega (arith, k .0)
-
-array-read-standing-at-2 : tie.Need-array-read-standing-at-2
-array-read-standing-at-2 c =
-    let g = c .before .before .before .before .before .before .before .read-groups in
-    let told = c .before .before .run2 .given .1 in
-    let k = g .ensures .known _ told in
-    omega (arith, k .0)
-
-mul-standing-at-3 : tie.Need-mul-standing-at-3
-mul-standing-at-3 c =
-    let g = c .before .before .before .before .before .before .before .read-groups in
-    let told = c .before .before .run2 .given .1 in
-    let k = g .ensures .known _ told in
-    omega (arith, k .0)
-
-array-read-standing-at-3 : tie.Need-array-read-standing-at-3
-array-read-standing-at-3 c =
-    let g = c .before .before .before .before .before .before .before .read-groups in
-    let told = c .before .before .run2 .given .1 in
-    let k = g .ensures .known _ told in
-    omega (arith, k .0)
-
-standing-at-requires : tie.Need-standing-at-requires
-standing-at-requires c κs =
-    let g = c .before .before .before .before .before .before .before .read-groups in
-    let told = c .before .before .run2 .given .1 in
-    let k = g .ensures .known _ told in
-    (entry-within _ _ (sym (g .ensures .run) ∙ told) _ _ _ (k .1 .0) (k .1 .1) _ (omega arith), entry-sound _ _ (sym (g .ensures .run) ∙ told) _ _ _ (k .1 .0) (k .1 .1) _ (omega arith))
+returns c = sym (group-refused _ _ _ (sym (c .before .before .before .before .before .before .read-groups .ensures .run) ∙ c .before .run .given .1) _)
 
 returns-2 : tie.Need-returns-2
-returns-2 c = sym (group-refused _ _ _ (sym (c .before .before .before .before .before .before .read-groups .ensures .run) ∙ c .before .run .given .1) _)
-
-returns-3 : tie.Need-returns-3
-returns-3 c =
-    let g = c .before .before .before .before .before .before .before .before .read-groups in
-    let told = c .before .before .before .run2 .given .1 in
-    let k = g .ensures .known _ told in
-    sym (group-found _ _ (sym (g .ensures .run) ∙ told) _ _ _ (k .1 .0) (k .1 .1) _ _ (omega arith) (c .standing-at .ensures))
+returns-2 c =
+    let r = c .before .before .before .before .before in
+    c .group-numbered .ensures ∙ sym (group-asked _ _ (sym (r .before .before .before .before .before .read-groups .ensures .run) ∙ r .run2 .given .1) _)
 
 pub find-group-spec : {M : Type 1} → statement M
 find-group-spec =
@@ -88,13 +34,6 @@ find-group-spec =
     read-groups-requires
     enum-known-run
     enum-known-run-2
+    group-numbered-requires
     returns
-    mul-standing-at
-    array-read-standing-at
-    mul-standing-at-2
-    array-read-standing-at-2
-    mul-standing-at-3
-    array-read-standing-at-3
-    standing-at-requires
-    returns-2
-    returns-3)
+    returns-2)

@@ -77,8 +77,8 @@ judge-contents-requires c κs = search needs
 enum-known-number : tie.Need-enum-known-number
 enum-known-number c = search needs
 
-add-t26 : tie.Need-add-t26
-add-t26 c =
+add-t25 : tie.Need-add-t25
+add-t25 c =
     let j = c .before .before .before in
     let w = j .before .before .before in
     let f = w .before .before .before in
@@ -90,22 +90,18 @@ add-t26 c =
 ending-requires-5 : tie.Need-ending-requires-5
 ending-requires-5 c κs = search needs
 
-enum-known-text : tie.Need-enum-known-text
-enum-known-text c = search needs
+enum-known-records : tie.Need-enum-known-records
+enum-known-records c = search needs
 
 is-named-before-requires : tie.Need-is-named-before-requires
 is-named-before-requires c κs =
     let j = c .before .before .before in
     let w = j .before .before .before in
     let f = w .before .before .before in
-    let a = f .before .before .before in (
-      omega arith,
-      (
-        a .pre .1 .1 .1,
-        text-is _ _ _ (f .head-fault .ensures) (w .before .before .if2 .left) (a .pre .1 .0) _ (w .word-at .ensures .0) _ _ _ (j .before .before .if4 .left)
-            (sym (j .judge-contents .ensures) ∙ c .before .text .given .1),
-      ),
-    )
+    let a = f .before .before .before in
+    let t = text-is _ _ _ (f .head-fault .ensures) (w .before .before .if2 .left) (a .pre .1 .0) _ (w .word-at .ensures .0) _ _ _ (j .before .before .if4 .left)
+    (sym (j .judge-contents .ensures) ∙ c .before .records .given .1) in
+    (omega arith, (a .pre .1 .1 .1, t .1))
 
 ending-requires-6 : tie.Need-ending-requires-6
 ending-requires-6 c κs = search needs
@@ -117,7 +113,7 @@ returns-5 c =
     let f = w .before .before .before in
     let a = f .before .before .before in
     turned-again _ _ _ (a .pre .0) _ (f .before .if1 .left) _ (f .head-fault .ensures) (w .before .before .if2 .left) (omega arith) (a .pre .1 .0) _ (w .word-at .ensures .0) (j .before .before .if4 .left)
-    _ _ _ (sym (j .judge-contents .ensures) ∙ c .before .before .before .before .text .given .1) (sym (c .before .before .is-named-before .ensures) ∙ c .before .if5 .taken) (c .ending6 .ensures)
+    _ _ _ (sym (j .judge-contents .ensures) ∙ c .before .before .before .before .records .given .1) (sym (c .before .before .is-named-before .ensures) ∙ c .before .if5 .taken) (c .ending6 .ensures)
 
 returns-6 : tie.Need-returns-6
 returns-6 c =
@@ -135,7 +131,7 @@ returns-7 c =
     let f = w .before .before .before in
     let a = f .before .before .before in
     turned-more _ _ _ (a .pre .0) _ (f .before .if1 .left) _ (f .head-fault .ensures) (w .before .before .if2 .left) (omega arith) (a .pre .1 .0) _ (w .word-at .ensures .0) (j .before .before .if4 .left)
-    _ _ _ (sym (j .judge-contents .ensures) ∙ c .before .before .before .text .given .1) (sym (c .before .is-named-before .ensures) ∙ c .if5 .left) refl refl refl
+    _ _ _ (sym (j .judge-contents .ensures) ∙ c .before .before .before .records .given .1) (sym (c .before .is-named-before .ensures) ∙ c .if5 .left) refl refl refl
 
 pub group-turn-spec : {M : Type 1} → statement M
 group-turn-spec =
@@ -159,9 +155,9 @@ group-turn-spec =
     part-judge-contents-end
     judge-contents-requires
     enum-known-number
-    add-t26
+    add-t25
     ending-requires-5
-    enum-known-text
+    enum-known-records
     is-named-before-requires
     ending-requires-6
     returns-5
