@@ -8,11 +8,12 @@ use Rattle.layout.specs.Ranges.{firstEdition}
 use Rattle.layout.specs.Group.{ctabChannel, ctabTurn, ctabsOf}
 use Rattle.layout.proofs.Scans.{run-stop, run-done, run-more, not-ended}
 use Rattle.layout.proofs.Ctabs.{turn-more, ctab-fits, channel-small}
-use Rattle.group.specs.Homes.{Homes}
-use Rattle.group.proofs.HomeLaws.{homes-start, homes-more, ended-homes}
+use Rattle.homes.specs.Homes.{Homes}
+use Rattle.homes.proofs.HomeLaws.{homes-start}
+use Rattle.ctabs.proofs.CtabHomes.{homes-more, ended-homes}
 use borrow.Author.Needs.{needs}
-use Rattle.group.proofs.ctabs.read_ctabs.Statement.{statement}
-use Rattle.group.proofs.ctabs.read_ctabs.Tie as tie
+use Rattle.ctabs.proofs.read_ctabs.Statement.{statement}
+use Rattle.ctabs.proofs.read_ctabs.Tie as tie
 
 abbrev Inv-loop : tie.InvT-loop
 Inv-loop c p homes₀ n₀ homes n =
@@ -34,7 +35,7 @@ enum-known-number c = search needs
 returns : tie.Need-returns Inv-loop μ-loop
 returns c =
     let l = c .before .before .before .before .before .loop in
-    record { run = sym (l .inv .1 .1 ∙ run-stop _ _ _ _ _ (omega arith) (cc)); homes = λ n e. not-ended _ _ n e }
+    record { run = sym (l .inv .1 .1 ∙ run-stop _ _ _ _ _ (omega arith) (sym (c .before .before .before .ctab-turn .ensures) ∙ c .before .number .given .1)); homes = λ n e. not-ended _ _ n e }
 
 enum-told : tie.Need-enum-told Inv-loop μ-loop
 enum-told c = search needs
@@ -42,7 +43,7 @@ enum-told c = search needs
 returns-2 : tie.Need-returns-2 Inv-loop μ-loop
 returns-2 c =
     let l = c .before .before .before .before .loop in
-    record { run = sym (l .inv .1 .1 ∙ run-done _ _ _ (omega arith) (cc)); homes = λ m e. ended-homes _ _ _ _ m (l .inv .0) (l .inv .1 .0) e }
+    record { run = sym (l .inv .1 .1 ∙ run-done _ _ _ (omega arith) (sym (c .before .before .ctab-turn .ensures) ∙ c .enum-told .given .1)); homes = λ m e. ended-homes _ _ _ _ m (l .inv .0) (l .inv .1 .0) e }
 
 enum-told-2 : tie.Need-enum-told-2 Inv-loop μ-loop
 enum-told-2 c = search needs

@@ -3,10 +3,10 @@ use mathlib.Core.Path.{sym, _∙_}
 use native.Mathlib.Omega.{arith}
 use Rattle.layout.specs.Group.{ctabTurn}
 use Rattle.layout.proofs.Ctabs.{ctab-over, ctab-head, ctab-size, ctab-out, ctab-last, ctab-within, channel-small}
-use Rattle.group.proofs.HomeLaws.{ctab-again, ctab-fresh}
+use Rattle.ctabs.proofs.CtabHomes.{ctab-again, ctab-fresh}
 use borrow.Author.Needs.{needs}
-use Rattle.group.proofs.ctabs.ctab_turn.Statement.{statement}
-use Rattle.group.proofs.ctabs.ctab_turn.Tie as tie
+use Rattle.ctabs.proofs.ctab_turn.Statement.{statement}
+use Rattle.ctabs.proofs.ctab_turn.Tie as tie
 
 mul-at : tie.Need-mul-at
 mul-at c = search needs

@@ -7,12 +7,13 @@ use Rattle.layout.specs.Scan.{run}
 use Rattle.layout.specs.Group.{cnttChannel, cnttTurn, cnttsOf}
 use Rattle.layout.proofs.Scans.{run-stop, run-done, run-more}
 use Rattle.layout.proofs.Cntts.{cntt-turn-more, cntt-fits}
-use Rattle.group.specs.Homes.{Homes, lastHome}
-use Rattle.group.proofs.HomeLaws.{homes-start}
-use Rattle.group.proofs.OrderLaws.{last-start, small, seen-more, home-there, last-more}
+use Rattle.homes.specs.Homes.{Homes}
+use Rattle.cntts.specs.Order.{lastHome}
+use Rattle.homes.proofs.HomeLaws.{homes-start}
+use Rattle.cntts.proofs.OrderLaws.{last-start, small, seen-more, home-there, last-more}
 use borrow.Author.Needs.{needs}
-use Rattle.group.proofs.cntts.read_cntts.Statement.{statement}
-use Rattle.group.proofs.cntts.read_cntts.Tie as tie
+use Rattle.cntts.proofs.read_cntts.Statement.{statement}
+use Rattle.cntts.proofs.read_cntts.Tie as tie
 
 abbrev Inv-loop : tie.InvT-loop
 Inv-loop c p n homes seen₀ last₀ j₀ seen last j =
@@ -33,13 +34,13 @@ enum-known-number : tie.Need-enum-known-number Inv-loop μ-loop
 enum-known-number c = search needs
 
 returns : tie.Need-returns Inv-loop μ-loop
-returns c = sym (c .before .before .before .before .before .loop .inv .1 .1 .1 ∙ run-stop _ _ _ _ _ (omega arith) (cc))
+returns c = sym (c .before .before .before .before .before .loop .inv .1 .1 .1 ∙ run-stop _ _ _ _ _ (omega arith) (sym (c .before .before .before .cntt-turn .ensures) ∙ c .before .number .given .1))
 
 enum-told : tie.Need-enum-told Inv-loop μ-loop
 enum-told c = search needs
 
 returns-2 : tie.Need-returns-2 Inv-loop μ-loop
-returns-2 c = sym (c .before .before .before .before .loop .inv .1 .1 .1 ∙ run-done _ _ _ (omega arith) (cc))
+returns-2 c = sym (c .before .before .before .before .loop .inv .1 .1 .1 ∙ run-done _ _ _ (omega arith) (sym (c .before .before .cntt-turn .ensures) ∙ c .enum-told .given .1))
 
 enum-told-2 : tie.Need-enum-told-2 Inv-loop μ-loop
 enum-told-2 c = search needs

@@ -12,8 +12,9 @@ use Rattle.layout.specs.Scan.{first}
 use Rattle.layout.specs.Ranges.{firstEdition}
 use Rattle.layout.specs.Group.{ctabChannel, ctabOf, cnttChannel, cnttOf, outOfOrder, cnttFault}
 use Rattle.layout.proofs.Cntts.{CnttMore}
-use Rattle.group.specs.Homes.{Home, Homes, lastHome, orderFault}
-use Rattle.group.proofs.HomeLaws.{home-set, home-none, home-again, home-fresh, homes-next}
+use Rattle.homes.specs.Homes.{Home, Homes}
+use Rattle.homes.proofs.HomeLaws.{home-set, home-none, home-again, home-fresh, homes-next}
+use Rattle.cntts.specs.Order.{lastHome, orderFault}
 
 -- ---- the ways out of the rule on numbers
 

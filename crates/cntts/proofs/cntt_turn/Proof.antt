@@ -4,10 +4,10 @@ use native.Mathlib.Omega.{arith}
 use borrow.Author.Tests.{not-true, not-false}
 use Rattle.layout.specs.Group.{cnttTurn}
 use Rattle.layout.proofs.Cntts.{cntt-over, cntt-head, cntt-size, cntt-channel, cntt-value, cntt-order, cntt-last, cntt-within, channel-over, channel-in}
-use Rattle.group.proofs.OrderLaws.{order-at}
+use Rattle.cntts.proofs.OrderLaws.{order-at}
 use borrow.Author.Needs.{needs}
-use Rattle.group.proofs.cntts.cntt_turn.Statement.{statement}
-use Rattle.group.proofs.cntts.cntt_turn.Tie as tie
+use Rattle.cntts.proofs.cntt_turn.Statement.{statement}
+use Rattle.cntts.proofs.cntt_turn.Tie as tie
 
 mul-at : tie.Need-mul-at
 mul-at c = search needs
