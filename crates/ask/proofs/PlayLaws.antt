@@ -20,11 +20,11 @@ use Rattle.layout.specs.declared.turn.Run.the-variants.{Ended}
 use Rattle.layout.specs.Answers.{refused, granted, numberOf, placeOf, valueOr, afterRun}
 use Rattle.layout.specs.Body.{bodyRun, ofPart, groupNo}
 use Rattle.layout.specs.Plays.{bit, playing, whoPlays, noChannel, inSixteen, played}
-use Rattle.body.proofs.find.Search as searched
-use Rattle.body.specs.declared.find.Search.{Search}
-use Rattle.body.specs.declared.find.Search.the-variants.{Refused, Missing, Found}
-use Rattle.body.specs.Find.{partLocated}
-use Rattle.body.proofs.AskLaws.{part-there-is, part-stopped, part-ended, part-missed, part-asked}
+use Rattle.find.proofs.Search as searched
+use Rattle.find.specs.declared.Search.{Search}
+use Rattle.find.specs.declared.Search.the-variants.{Refused, Missing, Found}
+use Rattle.find.specs.Find.{partLocated}
+use Rattle.find.proofs.AskLaws.{part-there-is, part-stopped, part-ended, part-missed, part-asked}
 use Rattle.ask.specs.PlaysAt.{playsAt, sourceAt, playerAt, playersAt}
 use Rattle.ask.proofs.Standing.{there-playing}
 

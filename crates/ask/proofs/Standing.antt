@@ -16,7 +16,7 @@ use Rattle.layout.proofs.Lists.{rows-last}
 use Rattle.layout.proofs.Sixteen.{group-sixteen}
 use Rattle.layout.proofs.RecordBytes.{record-channel, record-roots, record-chords, records-there}
 use Rattle.layout.proofs.Bodies.{body-accepted}
-use Rattle.body.proofs.AskLaws.{There}
+use Rattle.find.proofs.AskLaws.{There}
 use Rattle.ask.specs.PlaysAt.{playsAt, sourceAt, playerAt, playersAt}
 
 -- those that pass among two lists

@@ -17,9 +17,9 @@ use Rattle.layout.specs.declared.answer.Spanned.{Spanned}
 use Rattle.layout.specs.Answers.{Answer, refused, granted, numberOf, placeOf, valueOr, afterRun, partOf, Span, nothing, spanned}
 use Rattle.layout.specs.Body.{bodyRun, standing, ofGroup, rowOf, rowIn, ofChannel}
 use Rattle.layout.specs.Voice.{trimmed, voiceBytes, voiceName, voiceSpanAt, voiceSpan}
-use Rattle.body.specs.declared.find.Search.the-variants.{Refused, Missing}
-use Rattle.body.specs.Find.{groupLocated}
-use Rattle.body.proofs.AskLaws.{There, there-within, of-refused, of-missing, of-found}
+use Rattle.find.specs.declared.Search.the-variants.{Refused, Missing}
+use Rattle.find.specs.Find.{groupLocated}
+use Rattle.find.proofs.AskLaws.{There, there-within, of-refused, of-missing, of-found}
 use Rattle.ask.proofs.Trimming.{shown-is-start, shown-within, last-left-off, last-shown}
 
 -- ---- the eight bytes of the record at `at`, from behind

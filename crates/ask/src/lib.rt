@@ -7,7 +7,7 @@ ghost use Rattle.layout.specs.Plays.{played};
 ghost use Rattle.layout.specs.Voice.{trimmed, voiceBytes};
 ghost use Rattle.layout.specs.Promises.{PlaysTold, VoiceFound, VoiceShown};
 ghost use Rattle.ask.specs.PlaysAt.{playsAt, playersAt};
-use body::find::Search;
+use find::Search;
 use layout::answer::Played;
 use layout::answer::Spanned;
 use layout::record::SourceChannel;
@@ -66,7 +66,7 @@ fn nobody(number: u8, place: usize) -> Played
 pub fn who_plays(s: &[u8], name: &[u8], root: u8, kind: u8) -> Played
     ensures { λ r. ⌜ PlaysTold (now (s .entry)) (now (name .entry)) root kind r ⌝ }
 {
-    let search = body::find::find_part(s, name);
+    let search = find::find_part(s, name);
     if let Search::Refused(number, place) = search {
         return nobody(number, place);
     }
@@ -113,11 +113,11 @@ fn no_part(number: u8, place: usize) -> Spanned
 pub fn find_voice(s: &[u8], group: usize, channel: SourceChannel) -> Spanned
     ensures { λ r. ⌜ VoiceFound (now (s .entry)) group (channel .0) r ⌝ }
 {
-    match body::find::find_group(s, group) {
+    match find::find_group(s, group) {
         Search::Refused(number, place) => no_part(number, place),
         Search::Missing => no_part(16, 0),
         Search::Found(_, x) => {
-            let row = body::find::find_row(s, x.ctabs, x.records, channel.0);
+            let row = find::find_row(s, x.ctabs, x.records, channel.0);
             if x.records <= row {
                 return no_part(15, 0);
             }

@@ -1,4 +1,2 @@
 pub mod TextLaws
 pub mod TurnLaws
-pub mod FindLaws
-pub mod AskLaws

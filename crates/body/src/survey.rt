@@ -26,7 +26,7 @@ pub struct Survey {
 }
 
 // The text of the group at `at`, where it lies.
-pub(crate) fn text_at<'a>(s: &'a [u8], at: usize) -> &'a [u8]
+pub fn text_at<'a>(s: &'a [u8], at: usize) -> &'a [u8]
     requires { ⌜ at + 16 + word (now s) (at + 12) ≤ length (now s) ⌝ }
     ensures { λ r. ⌜ now r ≡ textAt (now (s .entry)) at ⌝ }
 {

@@ -18,9 +18,9 @@ use Rattle.layout.specs.Group.{ctabOf}
 use Rattle.layout.specs.Body.{ofChannel, rowOf, rowIn}
 use Rattle.layout.specs.Edit.{replaced, firstEdited, edited}
 use Rattle.layout.specs.Promises.{RecordEdited}
-use Rattle.body.specs.declared.find.Search.the-variants.{Refused, Missing}
-use Rattle.body.specs.Find.{groupLocated}
-use Rattle.body.proofs.AskLaws.{There, of-refused, of-missing, of-found}
+use Rattle.find.specs.declared.Search.the-variants.{Refused, Missing}
+use Rattle.find.specs.Find.{groupLocated}
+use Rattle.find.proofs.AskLaws.{There, of-refused, of-missing, of-found}
 use Rattle.write.proofs.Tails.{tail-replaced}
 use Rattle.edit.specs.EditAt.{editedAt, EditedAt, told}
 

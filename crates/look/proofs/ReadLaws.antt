@@ -21,9 +21,9 @@ use Rattle.layout.specs.declared.answer.Named.{Named}
 use Rattle.layout.specs.declared.answer.Channelled.{Channelled}
 use Rattle.layout.specs.declared.answer.Standing.{Standing}
 use Rattle.layout.proofs.Bodies.{body-accepted, group-there}
-use Rattle.body.specs.declared.find.Search.the-variants.{Refused, Missing, Found}
-use Rattle.body.specs.Find.{groupLocated, partLocated}
-use Rattle.body.proofs.AskLaws.{There, PartThere, of-refused, of-missing, of-found, group-there-is, part-there-is, part-stopped, part-ended, part-missed, part-asked}
+use Rattle.find.specs.declared.Search.the-variants.{Refused, Missing, Found}
+use Rattle.find.specs.Find.{groupLocated, partLocated}
+use Rattle.find.proofs.AskLaws.{There, PartThere, of-refused, of-missing, of-found, group-there-is, part-there-is, part-stopped, part-ended, part-missed, part-asked}
 
 -- ---- a body
 

@@ -3,7 +3,7 @@ ghost use mathlib.Core.Path.{_≡_};
 ghost use Rattle.layout.specs.Answers.{refused, nowhere as nothing};
 ghost use Rattle.layout.specs.Body.{channelled};
 ghost use Rattle.layout.specs.Promises.{SectionShown, BodyRead, GroupFound, PartFound, ChannelFound, TextShown};
-use body::find::Search;
+use find::Search;
 use layout::answer::Channelled;
 use layout::answer::Counted;
 use layout::answer::Grouped;
@@ -70,7 +70,7 @@ fn nowhere() -> Standing
 pub fn find_group(s: &[u8], group: usize) -> Grouped
     ensures { λ r. ⌜ GroupFound (now (s .entry)) group r ⌝ }
 {
-    match body::find::find_group(s, group) {
+    match find::find_group(s, group) {
         Search::Refused(number, place) => Grouped {
             number: number,
             place: place,
@@ -93,7 +93,7 @@ pub fn find_group(s: &[u8], group: usize) -> Grouped
 pub fn find_part(s: &[u8], name: &[u8]) -> Named
     ensures { λ r. ⌜ PartFound (now (s .entry)) (now (name .entry)) r ⌝ }
 {
-    match body::find::find_part(s, name) {
+    match find::find_part(s, name) {
         Search::Refused(number, place) => Named {
             number: number,
             place: place,
@@ -128,11 +128,11 @@ fn no_channel(number: u8, place: usize) -> Channelled
 pub fn find_channel(s: &[u8], group: usize, channel: SourceChannel) -> Channelled
     ensures { λ r. ⌜ ChannelFound (now (s .entry)) group (channel .0) r ⌝ }
 {
-    match body::find::find_group(s, group) {
+    match find::find_group(s, group) {
         Search::Refused(number, place) => no_channel(number, place),
         Search::Missing => no_channel(16, 0),
         Search::Found(_, x) => {
-            let row = body::find::find_row(s, x.ctabs, x.records, channel.0);
+            let row = find::find_row(s, x.ctabs, x.records, channel.0);
             if x.records <= row {
                 return no_channel(15, 0);
             }
@@ -150,7 +150,7 @@ pub fn find_channel(s: &[u8], group: usize, channel: SourceChannel) -> Channelle
 pub fn group_text<'a>(s: &'a [u8], group: usize) -> &'a [u8]
     ensures { λ r. ⌜ TextShown (now (s .entry)) group (now r) ⌝ }
 {
-    match body::find::find_group(s, group) {
+    match find::find_group(s, group) {
         Search::Refused(_, _) => &s[0..0],
         Search::Missing => &s[0..0],
         Search::Found(_, x) => {

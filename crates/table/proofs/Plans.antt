@@ -15,9 +15,9 @@ use Rattle.layout.specs.Body.{groupPlace, standingAt, standing, groupNo, record
 use Rattle.layout.proofs.Lists.{rows-length}
 use Rattle.layout.proofs.RecordBytes.{records-there}
 use Rattle.layout.proofs.Bodies.{body-accepted}
-use Rattle.body.specs.declared.find.Search.the-variants.{Refused, Missing}
-use Rattle.body.specs.Find.{groupLocated}
-use Rattle.body.proofs.AskLaws.{There, there-within, of-refused, of-missing, of-found}
+use Rattle.find.specs.declared.Search.the-variants.{Refused, Missing}
+use Rattle.find.specs.Find.{groupLocated}
+use Rattle.find.proofs.AskLaws.{There, there-within, of-refused, of-missing, of-found}
 use Rattle.table.specs.declared.Reading.{Reading}
 use Rattle.table.specs.Reading.{noReading, ReadingPlanned}
 

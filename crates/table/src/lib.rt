@@ -4,7 +4,7 @@ ghost use Prim.Native.Nat.{_+_, _*_, _≤_};
 ghost use lib.ListN.{length};
 ghost use Rattle.layout.specs.Group.{secondOf, recordAt};
 ghost use Rattle.table.specs.Reading.{noReading, toldOf, ReadingPlanned};
-use body::find::Search;
+use find::Search;
 use layout::answer::Counted;
 use layout::record::Record;
 use layout::record::SecondTable;
@@ -37,7 +37,7 @@ fn no_records(number: u8, place: usize) -> Reading
 pub fn plan_records(s: &[u8], group: usize, room: usize) -> Reading
     ensures { λ r. ⌜ ReadingPlanned (now (s .entry)) group room r ⌝ }
 {
-    match body::find::find_group(s, group) {
+    match find::find_group(s, group) {
         Search::Refused(number, place) => no_records(number, place),
         Search::Missing => no_records(16, 0),
         Search::Found(_, x) => {

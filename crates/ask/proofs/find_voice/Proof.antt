@@ -1,7 +1,7 @@
 -- The group, then its Ctab with the channel, then how much of the name is shown: one law for each way out.
 use mathlib.Core.Path.{sym, _∙_}
 use native.Mathlib.Omega.{arith}
-use Rattle.body.proofs.AskLaws.{group-there-is, there-within}
+use Rattle.find.proofs.AskLaws.{group-there-is, there-within}
 use Rattle.ask.proofs.VoiceLaws.{voice-no, voice-refused, voice-missing, voice-none, voice-there}
 use borrow.Author.Needs.{needs}
 use Rattle.ask.proofs.find_voice.Statement.{statement}

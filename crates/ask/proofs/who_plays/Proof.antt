@@ -1,7 +1,7 @@
 -- The search for the part, then the chord's numbers, then who plays in the group that was found: one law for each way out.
 use mathlib.Core.Path.{sym, _∙_}
 use native.Mathlib.Omega.{arith}
-use Rattle.body.proofs.AskLaws.{part-there-is, there-within}
+use Rattle.find.proofs.AskLaws.{part-there-is, there-within}
 use Rattle.ask.proofs.Standing.{there-sixteen}
 use Rattle.ask.proofs.PlayLaws.{nobody-plays, plays-refused, read-through, not-found, no-such-root, no-such-type, no-such-part, part-plays}
 use borrow.Author.Needs.{needs}

@@ -1,7 +1,7 @@
 -- The group, then its Ctab with the channel, then the record there: one law for each way out.
 use mathlib.Core.Path.{sym, _∙_}
 use native.Mathlib.Omega.{arith}
-use Rattle.body.proofs.AskLaws.{group-there-is, there-within}
+use Rattle.find.proofs.AskLaws.{group-there-is, there-within}
 use Rattle.edit.proofs.Editing.{edit-refused, edit-missing, edit-none, edit-there}
 use borrow.Author.Needs.{needs}
 use Rattle.edit.proofs.edit_record.Statement.{statement}

@@ -1,7 +1,7 @@
 -- The group, then its Ctab with the channel: one law for each way out.
 use mathlib.Core.Path.{sym, _∙_}
 use native.Mathlib.Omega.{arith}
-use Rattle.body.proofs.AskLaws.{group-there-is, there-within}
+use Rattle.find.proofs.AskLaws.{group-there-is, there-within}
 use Rattle.look.proofs.ReadLaws.{channel-no, channel-refused, channel-missing, channel-none, channel-there}
 use borrow.Author.Needs.{needs}
 use Rattle.look.proofs.find_channel.Statement.{statement}

@@ -1,6 +1,6 @@
 -- The group, then the room: one law for each way out.
 use mathlib.Core.Path.{sym, _∙_}
-use Rattle.body.proofs.AskLaws.{group-there-is}
+use Rattle.find.proofs.AskLaws.{group-there-is}
 use Rattle.table.proofs.Plans.{read-refused, read-missing, read-short, planned-no, planned-all}
 use borrow.Author.Needs.{needs}
 use Rattle.table.proofs.plan_records.Statement.{statement}

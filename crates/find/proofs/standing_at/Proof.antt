@@ -3,10 +3,10 @@ use Prim.Native.Nat.{_+_}
 use native.Mathlib.Omega.{arith}
 use Rattle.layout.specs.Bytes.{word}
 use Rattle.layout.proofs.Bodies.{group-there}
-use Rattle.body.proofs.FindLaws.{standing-is}
+use Rattle.find.proofs.FindLaws.{standing-is}
 use borrow.Author.Needs.{needs}
-use Rattle.body.proofs.find.standing_at.Statement.{statement}
-use Rattle.body.proofs.find.standing_at.Tie as tie
+use Rattle.find.proofs.standing_at.Statement.{statement}
+use Rattle.find.proofs.standing_at.Tie as tie
 
 add-word-at : tie.Need-add-word-at
 add-word-at c = search needs

@@ -6,8 +6,8 @@ use lib.Dec.{leb}
 use Rattle.layout.specs.declared.turn.Run.{Run}
 use Rattle.layout.specs.declared.turn.Run.the-variants.{Stopped, Ended}
 use Rattle.layout.specs.Body.{bodyRun, standing, groupNamed}
-use Rattle.body.specs.declared.find.Search.{Search}
-use Rattle.body.specs.declared.find.Search.the-variants.{Refused, Missing, Found}
+use Rattle.find.specs.declared.Search.{Search}
+use Rattle.find.specs.declared.Search.the-variants.{Refused, Missing, Found}
 
 -- what is looked for among n groups where the body is accepted
 abbrev pub among : Run → (ℕ → Search) → Search

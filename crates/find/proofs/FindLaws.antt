@@ -18,9 +18,9 @@ use Rattle.layout.specs.declared.turn.Judged.the-variants.{Sound}
 use Rattle.layout.specs.declared.answer.Standing.{Standing}
 use Rattle.layout.proofs.Numbers.{word-drop}
 use Rattle.layout.proofs.Scans.{first-end, first-here, first-next, first-within}
-use Rattle.body.specs.declared.find.Search.the-variants.{Refused, Missing, Found}
+use Rattle.find.specs.declared.Search.the-variants.{Refused, Missing, Found}
 use Rattle.body.specs.Known.{Places, Insides}
-use Rattle.body.specs.Find.{numbered, groupLocated, partLocated}
+use Rattle.find.specs.Find.{numbered, groupLocated, partLocated}
 
 -- the numbers of a sound group
 pub standing-is : (s : List ℕ) (at l w c m : ℕ) → groupAt (drop at s) ≡ Sound (word s (at + 12)) c m → l ≡ word s (at + 12) → w ≡ word s (at + 4)

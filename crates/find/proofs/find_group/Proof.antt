@@ -1,9 +1,9 @@
 -- The body read once; the tables have what is known of its groups.
 use mathlib.Core.Path.{sym, _∙_}
-use Rattle.body.proofs.FindLaws.{group-refused, group-asked}
+use Rattle.find.proofs.FindLaws.{group-refused, group-asked}
 use borrow.Author.Needs.{needs}
-use Rattle.body.proofs.find.find_group.Statement.{statement}
-use Rattle.body.proofs.find.find_group.Tie as tie
+use Rattle.find.proofs.find_group.Statement.{statement}
+use Rattle.find.proofs.find_group.Tie as tie
 
 read-groups-requires : tie.Need-read-groups-requires
 read-groups-requires c κs = search needs

@@ -7,10 +7,10 @@ ghost use Rattle.layout.specs.Ranges.{firstEdition};
 ghost use Rattle.layout.specs.Group.{ctabOf, groupAt};
 ghost use Rattle.layout.specs.Body.{groupNamed, standingAt};
 ghost use Rattle.layout.specs.declared.turn.Judged.the-variants.{Sound};
 ghost use Rattle.body.specs.Known.{Places, Insides};
-ghost use Rattle.body.specs.Find.{numbered, groupLocated, partLocated};
-use crate::survey::read_groups;
-use crate::survey::text_at;
+ghost use Rattle.find.specs.Find.{numbered, groupLocated, partLocated};
+use body::survey::read_groups;
+use body::survey::text_at;
 use layout::answer::Standing;
 use layout::turn::Run;
 

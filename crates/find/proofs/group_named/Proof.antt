@@ -4,11 +4,11 @@ use mathlib.Core.Path.{_≡_, sym, _∙_}
 use native.Mathlib.Omega.{arith}
 use Rattle.layout.specs.Scan.{first}
 use Rattle.layout.specs.Body.{groupNamed}
 use Rattle.body.proofs.TextLaws.{text-fits, text-part}
-use Rattle.body.proofs.FindLaws.{hasPart, named-start, named-here, named-next, named-none}
+use Rattle.find.proofs.FindLaws.{hasPart, named-start, named-here, named-next, named-none}
 use borrow.Author.Needs.{needs}
-use Rattle.body.proofs.find.group_named.Statement.{statement}
-use Rattle.body.proofs.find.group_named.Tie as tie
+use Rattle.find.proofs.group_named.Statement.{statement}
+use Rattle.find.proofs.group_named.Tie as tie
 
 abbrev Inv-loop : tie.InvT-loop
 Inv-loop s n places name k₀ k = (k ≤ n) × (groupNamed s n name ≡ first (hasPart s name) k n)

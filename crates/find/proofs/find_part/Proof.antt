@@ -1,9 +1,9 @@
 -- The body read once; then the texts of its groups are asked, where they lie.
 use mathlib.Core.Path.{sym, _∙_}
-use Rattle.body.proofs.FindLaws.{part-refused, part-asked}
+use Rattle.find.proofs.FindLaws.{part-refused, part-asked}
 use borrow.Author.Needs.{needs}
-use Rattle.body.proofs.find.find_part.Statement.{statement}
-use Rattle.body.proofs.find.find_part.Tie as tie
+use Rattle.find.proofs.find_part.Statement.{statement}
+use Rattle.find.proofs.find_part.Tie as tie
 
 read-groups-requires : tie.Need-read-groups-requires
 read-groups-requires c κs = search needs

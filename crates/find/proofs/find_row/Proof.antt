@@ -9,8 +9,8 @@ use Rattle.layout.specs.Ranges.{firstEdition}
 use Rattle.layout.specs.Group.{ctabOf, ctabChannel}
 use Rattle.layout.proofs.Scans.{first-end, first-here, first-next}
 use borrow.Author.Needs.{needs}
-use Rattle.body.proofs.find.find_row.Statement.{statement}
-use Rattle.body.proofs.find.find_row.Tie as tie
+use Rattle.find.proofs.find_row.Statement.{statement}
+use Rattle.find.proofs.find_row.Tie as tie
 
 abbrev Inv-loop : tie.InvT-loop
 Inv-loop s p n channel i₀ i = (i ≤ n) × (ctabOf firstEdition s p n channel ≡ first (λ k. eqb (ctabChannel firstEdition s p k) channel) i n)

@@ -16,9 +16,9 @@ use Rattle.layout.specs.declared.turn.Run.the-variants.{Stopped, Ended}
 use Rattle.layout.specs.declared.turn.Judged.the-variants.{Sound}
 use Rattle.layout.specs.declared.answer.Standing.{Standing}
 use Rattle.layout.proofs.Bodies.{Accepted, GroupMore, body-accepted, group-there}
-use Rattle.body.specs.declared.find.Search.{Search}
-use Rattle.body.specs.declared.find.Search.the-variants.{Refused, Missing, Found}
-use Rattle.body.specs.Find.{among, numbered, groupLocated, partLocated}
+use Rattle.find.specs.declared.Search.{Search}
+use Rattle.find.specs.declared.Search.the-variants.{Refused, Missing, Found}
+use Rattle.find.specs.Find.{among, numbered, groupLocated, partLocated}
 
 -- the parts of a group stand within the body
 pub record Within (s : List ℕ) (x : Standing) : Type 0 where
