@@ -5,6 +5,7 @@ ghost use lib.ListN.{length, take};
 ghost use Rattle.layout.specs.Lists.{same, has};
 ghost use Rattle.layout.specs.Sdec.{names, soundText, shares};
 ghost use Rattle.names.specs.Parts.{part, Ends, Checked, cuts, Placed};
+ghost use Rattle.names.specs.Marks.{mark};
 
 // A byte as a place.
 fn wide(x: u8) -> usize
@@ -14,7 +15,7 @@ fn wide(x: u8) -> usize
 }
 
 // Where the name that starts at `i` ends: at the next comma, or at the text's end.
-fn name_end(t: &[u8], i: usize) -> usize
+pub fn name_end(t: &[u8], i: usize) -> usize
     requires { ⌜ i ≤ length (now t) ⌝ }
     ensures { λ r. ⌜ Ends (now (t .entry)) i r ⌝ }
 {
@@ -130,6 +131,19 @@ pub fn has_name(t: &[u8], name: &[u8]) -> bool
         i = e + 1;
     }
     false
+}
+
+// The mark of a name. The remainder is by a power of two: a mask.
+pub fn mark_of(name: &[u8]) -> usize
+    ensures { λ r. ⌜ (r ≡ mark (now (name .entry))) × (r < 2048) ⌝ }
+{
+    let mut m: usize = 0;
+    let mut k: usize = 0;
+    while k < name.len() {
+        m = (m * 31 + wide(name[k])) % 2048;
+        k += 1;
+    }
+    m
 }
 
 // Whether two texts have a name in common.
