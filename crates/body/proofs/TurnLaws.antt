@@ -1,16 +1,15 @@
 -- A turn of the body as the code takes it: the ways out, and the tables after a turn that goes on.
-use Prim.Native.Nat.{ℕ, _+_, _-_, _*_, _≤_, _<_}
+use Prim.Native.Nat.{ℕ, _+_, _-_, _≤_, _<_}
 use native.Mathlib.Omega.{arith}
 use native.Mathlib.Decide.{decLt}
 use mathlib.Core.Path.{_≡_, refl, sym, ap, _∙_}
 use mathlib.Core.Bool.{Bool, true, false}
 use mathlib.Core.List.{List}
-use lib.Dec.{ltb}
 use lib.ListN.{length, getD, set, take, drop, length-take, length-drop, length-set}
 use lib.Seq.{getD-set-same, getD-set-other}
 use Rattle.layout.specs.Bytes.{word, four}
 use Rattle.layout.specs.Group.{headFault, contents, groupAt}
-use Rattle.layout.specs.Body.{groupPlace, sharing, groupTurnAt, groupTurn}
+use Rattle.layout.specs.Body.{groupPlace, groupTurnAt, groupTurn}
 use Rattle.layout.specs.declared.turn.Turn.{Turn}
 use Rattle.layout.specs.declared.turn.Turn.the-variants.{Refused, More, Done}
 use Rattle.layout.specs.declared.turn.Judged.the-variants.{Unsound, Sound}
@@ -19,8 +18,10 @@ use Rattle.layout.proofs.Scans.{ended-once}
 use Rattle.layout.proofs.Heads.{head-sound}
 use Rattle.layout.proofs.Groups.{contents-place}
 use Rattle.layout.proofs.Bodies.{there-empty, there-unsound, there-sound, turn-end, turn-head, turn-many, turn-unsound, turn-sound, group-more, group-there}
+use Rattle.named.specs.Before.{Places, NamedBefore}
+use Rattle.named.proofs.Marked.{marks-next}
 use Rattle.body.specs.declared.survey.Turned.{Turned}
-use Rattle.body.specs.Known.{Places, Insides, GroupTurned}
+use Rattle.body.specs.Known.{Insides, GroupTurned}
 
 pub refused-not-more : (a b : ℕ) → Refused a b ≡ More → ⊥
 refused-not-more a b e = let z : _≡_ {A = ℕ} 0 1 = cc in omega arith
@@ -45,41 +46,41 @@ module _ (s : List ℕ) (at f : ℕ) (e : f ≡ headFault s at (four 0x43534547)
         omega (arith, contents-place (inside s at l) number place c, length-take (at + 8 + l - (at + 8)) (drop (at + 8) s), length-drop (at + 8) s)
 
     -- the text of a sound group, and where it ends
-    pub text-is : (t c m : ℕ) → (l ≡ 0 → ⊥) → contents (inside s at l) ≡ Sound t c m → (t ≡ word s (at + 12)) × (at + 16 + word s (at + 12) ≤ length s)
-    text-is t c m d is = let g = group-there s 0 at t c m h (there-sound s at f h e z l q d t c m is) in (g .0, omega (arith, g .0, g .1 .0, g .1 .1))
+    pub text-is : (t c m : ℕ) → (l ≡ 0 → ⊥) → contents (inside s at l) ≡ Sound t c m → (t ≡ word s (at + 12)) × (at + 16 + t ≤ length s)
+    text-is t c m d is = let g = group-there s 0 at t c m h (there-sound s at f h e z l q d t c m is) in (g .0, omega (arith, g .1 .0, g .1 .1))
 
 -- ---- the ways out of a turn
 
-module _ (s : List ℕ) (n at : ℕ) (here : at ≡ groupPlace s n) (r : Turned) where
+module _ (s : List ℕ) (n at : ℕ) (here : at ≡ groupPlace s n) (r : Turned) (marks : List Bool) where
   turn-is : (t : Turn) → r .turn ≡ t → groupTurnAt s n at ≡ t → r .turn ≡ groupTurn s n
   unfolding groupTurn
   turn-is t e q = e ∙ (sym q ∙ ap (groupTurnAt s n) here)
 
-  ended : (t : Turn) → r .turn ≡ t → groupTurnAt s n at ≡ t → (t ≡ More → ⊥) → GroupTurned s n at r
-  ended t e q over = record { turn = turn-is t e q; sound = λ m. absurd (over (sym e ∙ m)) }
+  ended : (t : Turn) → r .turn ≡ t → groupTurnAt s n at ≡ t → (t ≡ More → ⊥) → GroupTurned s n at r marks
+  ended t e q over = record { turn = turn-is t e q; sound = λ m. absurd (over (sym e ∙ m)); marked = λ m. absurd (over (sym e ∙ m)) }
 
-  pub turned-end : at ≡ length s → r .turn ≡ Done → GroupTurned s n at r
+  pub turned-end : at ≡ length s → r .turn ≡ Done → GroupTurned s n at r marks
   turned-end h e = ended Done e (turn-end s n at h) done-not-more
 
   module _ (o : at ≡ length s → ⊥) (f : ℕ) (e : f ≡ headFault s at (four 0x43534547)) where
-    refusing : (number place : ℕ) → r .turn ≡ Refused number place → groupTurnAt s n at ≡ Refused number place → GroupTurned s n at r
+    refusing : (number place : ℕ) → r .turn ≡ Refused number place → groupTurnAt s n at ≡ Refused number place → GroupTurned s n at r marks
     refusing number place q t = ended (Refused number place) q t (refused-not-more number place)
 
-    pub turned-head : (f ≡ 0 → ⊥) → r .turn ≡ Refused f at → GroupTurned s n at r
+    pub turned-head : (f ≡ 0 → ⊥) → r .turn ≡ Refused f at → GroupTurned s n at r marks
     turned-head h q = refusing f at q (turn-head s n at o f e h)
 
     module _ (z : f ≡ 0) where
-      pub turned-many : 32 ≤ n → r .turn ≡ Refused 12 at → GroupTurned s n at r
+      pub turned-many : 32 ≤ n → r .turn ≡ Refused 12 at → GroupTurned s n at r marks
       turned-many h q = refusing 12 at q (turn-many s n at o f e z h)
 
       module _ (w : n < 32) (h : at ≤ length s) (l : ℕ) (q : l ≡ word s (at + 4)) where
-        pub turned-empty : l ≡ 0 → r .turn ≡ Refused 6 at → GroupTurned s n at r
+        pub turned-empty : l ≡ 0 → r .turn ≡ Refused 6 at → GroupTurned s n at r marks
         turned-empty d t =
             let y : at + 0 ≡ at = omega arith in
             refusing 6 at t (rw y at (turn-unsound s n at o f e z w 6 0 (there-empty s at f h e z l q d)))
 
         module _ (d : l ≡ 0 → ⊥) where
-          pub turned-unsound : (number place : ℕ) → contents (inside s at l) ≡ Unsound number place → r .turn ≡ Refused number (at + 8 + place) → GroupTurned s n at r
+          pub turned-unsound : (number place : ℕ) → contents (inside s at l) ≡ Unsound number place → r .turn ≡ Refused number (at + 8 + place) → GroupTurned s n at r marks
           turned-unsound number place c t =
               let y : at + (8 + place) ≡ at + 8 + place = omega arith in
               refusing number (at + 8 + place) t (rw y at (turn-unsound s n at o f e z w number (8 + place) (there-unsound s at f h e z l q d number place c)))
@@ -88,14 +89,15 @@ module _ (s : List ℕ) (n at : ℕ) (here : at ≡ groupPlace s n) (r : Turned)
             sound-there : groupAt (drop at s) ≡ Sound t c m
             sound-there = there-sound s at f h e z l q d t c m is
 
-            pub turned-again : ltb (sharing s n at) n ≡ true → r .turn ≡ Refused 13 at → GroupTurned s n at r
-            turned-again b v = refusing 13 at v (turn-sound s n at o f e z w t c m true sound-there b)
+            pub turned-again : NamedBefore s n at true marks → r .turn ≡ Refused 13 at → GroupTurned s n at r marks
+            turned-again b v = refusing 13 at v (turn-sound s n at o f e z w t c m true sound-there (sym (b .answer)))
 
-            pub turned-more : ltb (sharing s n at) n ≡ false → r .turn ≡ More → r .records ≡ c → r .seconds ≡ m → GroupTurned s n at r
+            pub turned-more : NamedBefore s n at false marks → r .turn ≡ More → r .records ≡ c → r .seconds ≡ m → GroupTurned s n at r marks
             turned-more b v x y =
                 record {
-                  turn = turn-is More v (turn-sound s n at o f e z w t c m false sound-there b);
+                  turn = turn-is More v (turn-sound s n at o f e z w t c m false sound-there (sym (b .answer)));
                   sound = λ _. rw (x, y, ← (text-is s at f e z h l q t c m d is .0)) sound-there;
+                  marked = λ _. let own = b .marked refl in marks-next s n marks (own .0) at here (own .1);
                 }
 
 -- ---- the tables: empty at the start, one entry for each turn that goes on
@@ -145,10 +147,10 @@ module _ (s : List ℕ) where
             rw (q, ← here, getD-set-same t n x 0 (omega (arith, known .sizes .0)), getD-set-same u n y 0 (omega (arith, known .sizes .1))) h
 
 -- a turn that goes on: the group is one of 32, and it and its text stand within the body
-pub more-within : (s : List ℕ) (n at : ℕ) (r : Turned) → GroupTurned s n at r → at ≡ groupPlace s n → at ≤ length s → r .turn ≡ More
+pub more-within : (s : List ℕ) (n at : ℕ) (r : Turned) (marks : List Bool) → GroupTurned s n at r marks → at ≡ groupPlace s n → at ≤ length s → r .turn ≡ More
     → (n < 32) × ((at + 8 + word s (at + 4) ≤ length s) × (at + 16 + word s (at + 12) ≤ length s))
 unfolding groupTurn
-more-within s n at r turned here h m =
+more-within s n at r marks turned here h m =
     let g = group-there s n at (word s (at + 12)) (r .records) (r .seconds) h (turned .sound m) in
     let more = group-more s n at (rw here (sym (turned .turn) ∙ m)) in
     (more .few, (g .1 .1, omega (arith, g .1 .0, g .1 .1)))

@@ -1,6 +1,7 @@
 -- What strict reading knows of a body's first n groups: where they stand, and what is inside them.
 use Prim.Native.Nat.{ℕ, _+_, _≤_, _<_}
 use mathlib.Core.Path.{_≡_}
+use mathlib.Core.Bool.{Bool}
 use mathlib.Core.List.{List}
 use lib.ListN.{length, getD, drop}
 use Rattle.layout.specs.Bytes.{word}
@@ -9,24 +10,20 @@ use Rattle.layout.specs.Body.{groupPlace, groupTurn, bodyRun}
 use Rattle.layout.specs.declared.turn.Turn.the-variants.{More}
 use Rattle.layout.specs.declared.turn.Run.the-variants.{Ended}
 use Rattle.layout.specs.declared.turn.Judged.the-variants.{Sound}
+use Rattle.named.specs.Before.{Places, Marks}
 use Rattle.body.specs.declared.survey.Turned.{Turned}
 use Rattle.body.specs.declared.survey.Survey.{Survey}
-
--- a table of the places of n groups, whose texts stand within the body
-pub record Places (s : List ℕ) (n : ℕ) (places : List ℕ) : Type 0 where
-  pub size : length places ≡ 32
-  pub place : (k : ℕ) → k < n → getD places k 0 ≡ groupPlace s k
-  pub fits : (k : ℕ) → k < n → groupPlace s k + 16 + word s (groupPlace s k + 12) ≤ length s
 
 -- tables of how many Ctabs and Cntts each of n groups has
 pub record Insides (s : List ℕ) (n : ℕ) (records seconds : List ℕ) : Type 0 where
   pub sizes : (length records ≡ 32) × (length seconds ≡ 32)
   pub sound : (k : ℕ) → k < n → groupAt (drop (groupPlace s k) s) ≡ Sound (word s (groupPlace s k + 12)) (getD records k 0) (getD seconds k 0)
 
--- a turn, and where it goes on what is inside the group
-pub record GroupTurned (s : List ℕ) (n at : ℕ) (r : Turned) : Type 0 where
+-- a turn, and where it goes on what is inside the group, and the marks with those of its names
+pub record GroupTurned (s : List ℕ) (n at : ℕ) (r : Turned) (marks : List Bool) : Type 0 where
   pub turn : r .turn ≡ groupTurn s n
   pub sound : r .turn ≡ More → groupAt (drop at s) ≡ Sound (word s (at + 12)) (r .records) (r .seconds)
+  pub marked : r .turn ≡ More → Marks s (n + 1) marks
 
 -- a whole body, and where it is accepted its groups
 pub record Surveyed (s : List ℕ) (r : Survey) : Type 0 where

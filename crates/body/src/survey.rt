@@ -1,11 +1,11 @@
-// One pass over a body. Where each group stands is kept, so that its names are found again without reading what is before them.
+// One pass over a body. Where each group stands is kept, so that its names are found again without reading what is before them;
+// and the marks of the names so far, so that few names are looked for in the groups before.
 ghost use mathlib.Core.Path.{_≡_};
-ghost use Prim.Native.Nat.{_+_, _≤_};
-ghost use lib.Dec.{ltb};
+ghost use Prim.Native.Nat.{_≤_};
 ghost use lib.ListN.{length};
-ghost use Rattle.layout.specs.Bytes.{word};
-ghost use Rattle.layout.specs.Body.{groupPlace, textAt, sharing};
-ghost use Rattle.body.specs.Known.{Places, GroupTurned, Surveyed};
+ghost use Rattle.layout.specs.Body.{groupPlace};
+ghost use Rattle.named.specs.Before.{Places, Marks};
+ghost use Rattle.body.specs.Known.{GroupTurned, Surveyed};
 use layout::turn::Judged;
 use layout::turn::Run;
 use layout::turn::Turn;
@@ -25,32 +25,6 @@ pub struct Survey {
     pub seconds: [usize; 32],
 }
 
-// The text of the group at `at`, where it lies.
-pub fn text_at<'a>(s: &'a [u8], at: usize) -> &'a [u8]
-    requires { ⌜ at + 16 + word (now s) (at + 12) ≤ length (now s) ⌝ }
-    ensures { λ r. ⌜ now r ≡ textAt (now (s .entry)) at ⌝ }
-{
-    let start = at + 16;
-    let end = start + scan::word_at(s, at + 12);
-    &s[start..end]
-}
-
-// Whether one of the n groups before has a name of the group at `at`.
-fn is_named_before(s: &[u8], n: usize, places: &[usize; 32], at: usize) -> bool
-    requires { ⌜ (n ≤ 32) × (Places (now s) n (now places) × (at + 16 + word (now s) (at + 12) ≤ length (now s))) ⌝ }
-    ensures { λ r. ⌜ r ≡ ltb (sharing (now (s .entry)) n at) n ⌝ }
-{
-    let text = text_at(s, at);
-    let mut k: usize = 0;
-    while k < n {
-        if names::is_sharing(text_at(s, places[k]), text) {
-            return true;
-        }
-        k += 1;
-    }
-    false
-}
-
 // A turn that does not go on.
 fn ending(turn: Turn) -> Turned
     ensures { λ r. ⌜ r .turn ≡ turn ⌝ }
@@ -62,10 +36,16 @@ fn ending(turn: Turn) -> Turned
     }
 }
 
-// Group number n, which stands at `at`.
-fn group_turn(s: &[u8], n: usize, at: usize, places: &[usize; 32]) -> Turned
-    requires { ⌜ (at ≡ groupPlace (now s) n) × ((at ≤ length (now s)) × ((n ≤ 32) × Places (now s) n (now places))) ⌝ }
-    ensures { λ r. ⌜ GroupTurned (now (s .entry)) n at r ⌝ }
+// Group number n, which stands at `at`. Where the turn goes on, its names are marked.
+fn group_turn(
+    s: &[u8],
+    n: usize,
+    at: usize,
+    places: &[usize; 32],
+    marks: &mut [bool; 2048],
+) -> Turned
+    requires { ⌜ (at ≡ groupPlace (now s) n) × ((at ≤ length (now s)) × ((n ≤ 32) × (Places (now s) n (now places) × Marks (now s) n (now marks)))) ⌝ }
+    ensures { λ r. ⌜ GroupTurned (now (s .entry)) n at r (now (marks .exit)) ⌝ }
 {
     let whole = s.len();
     if at == whole {
@@ -86,8 +66,8 @@ fn group_turn(s: &[u8], n: usize, at: usize, places: &[usize; 32]) -> Turned
     let end = start + length;
     match group::judge_contents(&s[start..end]) {
         Judged::Unsound(number, place) => ending(Turn::Refused(number, start + place)),
-        Judged::Sound(_, records, seconds) => {
-            if is_named_before(s, n, places, at) {
+        Judged::Sound(text, records, seconds) => {
+            if named::is_named_before(s, n, places, marks, at, text) {
                 return ending(Turn::Refused(13, at));
             }
             Turned {
@@ -114,10 +94,11 @@ pub fn read_groups(s: &[u8]) -> Survey
             seconds: seconds,
         };
     }
+    let mut marks: [bool; 2048] = [false; 2048];
     let mut n: usize = 0;
     let mut at: usize = 0;
     loop {
-        let t = group_turn(s, n, at, &places);
+        let t = group_turn(s, n, at, &places, &mut marks);
         let turn = t.turn;
         match turn {
             Turn::Refused(number, place) => {

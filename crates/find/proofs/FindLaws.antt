@@ -1,25 +1,20 @@
--- Where a group and its parts stand, and the group that has a part.
+-- Where a group and its parts stand.
 use Prim.Native.Nat.{ℕ, _+_, _-_, _*_, _≤_, _<_}
 use native.Mathlib.Omega.{arith}
-use mathlib.Core.Path.{_≡_, refl, sym, ap, _∙_}
-use mathlib.Core.Bool.{Bool, true, false, cond}
+use mathlib.Core.Path.{_≡_}
 use mathlib.Core.List.{List}
-use lib.Dec.{leb, eqb}
 use lib.ListN.{length, getD, drop}
 use borrow.Author.Tests.{le-leb, lt-leb}
-use Rattle.layout.specs.Lists.{has}
-use Rattle.layout.specs.Scan.{first}
 use Rattle.layout.specs.Bytes.{word}
-use Rattle.layout.specs.Sdec.{names}
 use Rattle.layout.specs.Group.{groupSize, groupAt}
-use Rattle.layout.specs.Body.{groupPlace, textAt, bodyRun, standingAt, standing, groupNamed}
+use Rattle.layout.specs.Body.{bodyRun, standingAt, standing, groupNamed}
 use Rattle.layout.specs.declared.turn.Run.the-variants.{Stopped, Ended}
 use Rattle.layout.specs.declared.turn.Judged.the-variants.{Sound}
 use Rattle.layout.specs.declared.answer.Standing.{Standing}
 use Rattle.layout.proofs.Numbers.{word-drop}
-use Rattle.layout.proofs.Scans.{first-end, first-here, first-next, first-within}
 use Rattle.find.specs.declared.Search.the-variants.{Refused, Missing, Found}
-use Rattle.body.specs.Known.{Places, Insides}
+use Rattle.named.specs.Before.{Places}
+use Rattle.body.specs.Known.{Insides}
 use Rattle.find.specs.Find.{numbered, groupLocated, partLocated}
 
 -- the numbers of a sound group
@@ -65,29 +60,3 @@ module _ (s : List ℕ) where
     pub part-asked : (name : List ℕ) (k : ℕ) → k ≡ groupNamed s n name → partLocated s name ≡ numbered s n k
     unfolding partLocated
     part-asked name k q = rw (e, q)
-
--- ---- the group that has a part
-
--- group number k has the part
-unfoldable pub hasPart : List ℕ → List ℕ → ℕ → Bool
-hasPart s name k = has (names (textAt s (groupPlace s k))) name
-
-module _ (s name : List ℕ) (n : ℕ) where
-  pub named-start : groupNamed s n name ≡ first (hasPart s name) 0 n
-  unfolding groupNamed hasPart
-  named-start = refl
-
-  module _ (k : ℕ) (e : groupNamed s n name ≡ first (hasPart s name) k n) where
-    told : (b : Bool) (t : List ℕ) → t ≡ textAt s (groupPlace s k) → has (names t) name ≡ b → hasPart s name k ≡ b
-    unfolding hasPart
-    told b t p r = rw (← p) r
-
-    module _ (t : List ℕ) (p : t ≡ textAt s (groupPlace s k)) (l : k < n) where
-      pub named-here : has (names t) name ≡ true → k ≡ groupNamed s n name
-      named-here r = sym (e ∙ first-here (hasPart s name) k n l (told true t p r))
-
-      pub named-next : has (names t) name ≡ false → groupNamed s n name ≡ first (hasPart s name) (k + 1) n
-      named-next r = e ∙ first-next (hasPart s name) k n l (told false t p r)
-
-    pub named-none : n ≡ k → n ≡ groupNamed s n name
-    named-none z = z ∙ sym (e ∙ first-end (hasPart s name) k n z)

@@ -5,12 +5,12 @@ ghost use lib.ListN.{length, drop};
 ghost use Rattle.layout.specs.Bytes.{word};
 ghost use Rattle.layout.specs.Ranges.{firstEdition};
 ghost use Rattle.layout.specs.Group.{ctabOf, groupAt};
-ghost use Rattle.layout.specs.Body.{groupNamed, standingAt};
+ghost use Rattle.layout.specs.Body.{standingAt};
 ghost use Rattle.layout.specs.declared.turn.Judged.the-variants.{Sound};
-ghost use Rattle.body.specs.Known.{Places, Insides};
+ghost use Rattle.named.specs.Before.{Places};
+ghost use Rattle.body.specs.Known.{Insides};
 ghost use Rattle.find.specs.Find.{numbered, groupLocated, partLocated};
 use body::survey::read_groups;
-use body::survey::text_at;
 use layout::answer::Standing;
 use layout::turn::Run;
 
@@ -77,21 +77,6 @@ pub fn find_group(s: &[u8], group: usize) -> Search
     }
 }
 
-// The number of the first of n groups that has the part, or n where none has.
-fn group_named(s: &[u8], n: usize, places: &[usize; 32], name: &[u8]) -> usize
-    requires { ⌜ (n ≤ 32) × Places (now s) n (now places) ⌝ }
-    ensures { λ r. ⌜ r ≡ groupNamed (now (s .entry)) n (now (name .entry)) ⌝ }
-{
-    let mut k: usize = 0;
-    while k < n {
-        if names::has_name(text_at(s, places[k]), name) {
-            return k;
-        }
-        k += 1;
-    }
-    n
-}
-
 // A group by the name of a part.
 pub fn find_part(s: &[u8], name: &[u8]) -> Search
     ensures { λ r. ⌜ r ≡ partLocated (now (s .entry)) (now (name .entry)) ⌝ }
@@ -104,7 +89,7 @@ pub fn find_part(s: &[u8], name: &[u8]) -> Search
     match run {
         Run::Stopped(number, place) => Search::Refused(number, place),
         Run::Ended(n) => {
-            let k = group_named(s, n, &places, name);
+            let k = named::group_named(s, n, &places, name);
             group_numbered(s, n, &places, &records, &seconds, k)
         }
     }

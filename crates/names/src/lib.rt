@@ -3,7 +3,7 @@ ghost use mathlib.Core.Path.{_≡_};
 ghost use Prim.Native.Nat.{_<_, _≤_};
 ghost use lib.ListN.{length, take};
 ghost use Rattle.layout.specs.Lists.{same, has};
-ghost use Rattle.layout.specs.Sdec.{names, soundText, shares};
+ghost use Rattle.layout.specs.Sdec.{names, soundText};
 ghost use Rattle.names.specs.Parts.{part, Ends, Checked, cuts, Placed};
 ghost use Rattle.names.specs.Marks.{mark};
 
@@ -144,19 +144,4 @@ pub fn mark_of(name: &[u8]) -> usize
         k += 1;
     }
     m
-}
-
-// Whether two texts have a name in common.
-pub fn is_sharing(t: &[u8], u: &[u8]) -> bool
-    ensures { λ r. ⌜ r ≡ shares (now (t .entry)) (now (u .entry)) ⌝ }
-{
-    let mut i: usize = 0;
-    while i <= t.len() {
-        let e = name_end(t, i);
-        if has_name(u, &t[i..e]) {
-            return true;
-        }
-        i = e + 1;
-    }
-    false
 }

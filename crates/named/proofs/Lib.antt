@@ -1,0 +1,4 @@
+pub mod Texts
+pub mod Naming
+pub mod Sharing
+pub mod Marked
