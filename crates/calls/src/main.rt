@@ -3,7 +3,6 @@
 ghost use Prim.Native.Nat.{_≤_};
 ghost use Rattle.script.specs.Printing.{Waits};
 ghost use Rattle.lines.specs.Reading.{InText};
-use entries::LIST;
 use lines::DONE;
 use lines::LINE;
 use lines::OVERLONG;
@@ -21,7 +20,6 @@ fn answer_step(
     end: usize,
     room: &mut [u8; ROOM],
     name: &mut [u8; ROOM],
-    list: &mut [usize; LIST],
     out: &mut [u8; OUT],
     used: usize,
 ) -> usize
@@ -30,7 +28,7 @@ fn answer_step(
 {
     if kind == LINE {
         let s: &[u8] = text;
-        return verbs::answer(&s[start..end], room, name, list, out, used);
+        return verbs::answer(&s[start..end], room, name, out, used);
     }
     if kind == OVERLONG {
         return put_bad(out, used);
@@ -43,7 +41,6 @@ fn answer_all(
     text: &mut [u8; TEXT],
     room: &mut [u8; ROOM],
     name: &mut [u8; ROOM],
-    list: &mut [usize; LIST],
     out: &mut [u8; OUT],
 ) {
     let mut turns = u64::MAX;
@@ -54,17 +51,7 @@ fn answer_all(
         if step.kind == DONE {
             break;
         }
-        used = answer_step(
-            text,
-            step.kind,
-            step.start,
-            step.end,
-            room,
-            name,
-            list,
-            out,
-            used,
-        );
+        used = answer_step(text, step.kind, step.start, step.end, room, name, out, used);
         reader = step.next;
         turns -= 1;
     }
@@ -75,7 +62,6 @@ fn main() {
     let mut text = lines::text();
     let mut room = tokens::room();
     let mut name = tokens::room();
-    let mut list = entries::list();
     let mut out = print::out();
-    answer_all(&mut text, &mut room, &mut name, &mut list, &mut out);
+    answer_all(&mut text, &mut room, &mut name, &mut out);
 }

@@ -84,21 +84,28 @@ fn put_edit(
     put_end(out, told)
 }
 
-// A group number, a source channel and the place where its token ends, or no such tokens.
+// How many bytes the body has, a group number, a source channel, and the place where the CHANNEL ends; or no such tokens.
 enum Asked {
-    Of(usize, u8, usize),
+    Of(usize, usize, u8, usize),
     Bad,
 }
 
-// The G and the CHANNEL that stand after the token that ends at `at`.
-fn take_asked(line: &[u8], at: usize) -> Asked {
-    let Two::Are(group, channel, last) = take_two(line, at) else {
+// The BYTES, which are put into the room, the G and the CHANNEL that stand after the token that ends at `at`, with a REC behind them
+// that ends the line.
+fn take_asked(line: &[u8], at: usize, room: &mut [u8; ROOM]) -> Asked {
+    let Taken::Bytes(count, end) = take_bytes(line, at, room) else {
+        return Asked::Bad;
+    };
+    let Two::Are(group, channel, last) = take_two(line, end) else {
         return Asked::Bad;
     };
     if channel > 255 {
         return Asked::Bad;
     }
-    Asked::Of(group, channel as u8, last)
+    if record_end(line, last) != line.len() {
+        return Asked::Bad;
+    }
+    Asked::Of(count, group, channel as u8, last)
 }
 
 // `edit BYTES G CHANNEL REC`
@@ -112,15 +119,9 @@ pub fn edit(
     requires { ⌜ Waits used ⌝ }
     ensures { λ r. ⌜ Waits r ⌝ }
 {
-    let Taken::Bytes(count, end) = take_bytes(line, at, room) else {
+    let Asked::Of(count, group, channel, last) = take_asked(line, at, room) else {
         return put_bad(out, used);
     };
-    let Asked::Of(group, channel, last) = take_asked(line, end) else {
-        return put_bad(out, used);
-    };
-    if record_end(line, last) != line.len() {
-        return put_bad(out, used);
-    }
     put_edit(
         out,
         used,

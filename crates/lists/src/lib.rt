@@ -54,32 +54,60 @@ fn put_listed(
     put_kept(out, told, is_kept(list, 3 * listed.count, lent))
 }
 
+// How many bytes the body has and for how many entries there is room, or no such tokens.
+enum Asked {
+    Of(usize, usize),
+    Bad,
+}
+
+// The BYTES, which are put into the room, and the ROOM that stand after the token that ends at `at`.
+fn take_asked(line: &[u8], at: usize, room: &mut [u8; ROOM]) -> Asked {
+    let Taken::Bytes(count, end) = take_bytes(line, at, room) else {
+        return Asked::Bad;
+    };
+    let Number::Is(entries, last) = take_number(line, end) else {
+        return Asked::Bad;
+    };
+    if last != line.len() {
+        return Asked::Bad;
+    }
+    Asked::Of(count, entries)
+}
+
+// The call on a list with room for so many entries, and what it came back with.
+fn put_list(
+    out: &mut [u8; OUT],
+    used: usize,
+    body: &[u8],
+    list: &mut [usize; LIST],
+    entries: usize,
+) -> usize
+    requires { ⌜ (Waits used) × (entries ≤ 8192) ⌝ }
+    ensures { λ r. ⌜ Waits r ⌝ }
+{
+    let lending = 3 * entries;
+    blank(list, lending);
+    let listed = list_into(body, list, lending);
+    put_listed(out, used, list, entries, listed)
+}
+
 // `salvage BYTES ROOM`
 pub fn salvage(
     line: &[u8],
     at: usize,
     room: &mut [u8; ROOM],
-    list: &mut [usize; LIST],
     out: &mut [u8; OUT],
     used: usize,
 ) -> usize
     requires { ⌜ Waits used ⌝ }
     ensures { λ r. ⌜ Waits r ⌝ }
 {
-    let Taken::Bytes(count, end) = take_bytes(line, at, room) else {
+    let Asked::Of(count, lent) = take_asked(line, at, room) else {
         return put_bad(out, used);
     };
-    let Number::Is(entries, last) = take_number(line, end) else {
-        return put_bad(out, used);
-    };
-    if last != line.len() {
+    if 8192 < lent {
         return put_bad(out, used);
     }
-    if 8192 < entries {
-        return put_bad(out, used);
-    }
-    let lending = 3 * entries;
-    blank(list, lending);
-    let listed = list_into(first(room, count), list, lending);
-    put_listed(out, used, list, entries, listed)
+    let mut list = entries::list();
+    put_list(out, used, first(room, count), &mut list, lent)
 }

@@ -1,7 +1,6 @@
 // A line of a script is answered by the verb that it begins with. What the verbs do stands in `reads`, `lists`, `asks`, `edits`, `groups`
 // and `writes`.
 ghost use Rattle.script.specs.Printing.{Waits};
-use entries::LIST;
 use script::print::OUT;
 use script::print::put_bad;
 use tokens::ROOM;
@@ -18,12 +17,32 @@ use words::WRITE;
 use words::verb_end;
 use words::verb_of;
 
-// A line is answered by its verb. `room` and `name` hold the BYTES of a line, `list` what is lent to a call.
+// A line whose verb reads, writes or changes records.
+fn answer_records(
+    line: &[u8],
+    at: usize,
+    verb: u8,
+    room: &mut [u8; ROOM],
+    out: &mut [u8; OUT],
+    used: usize,
+) -> usize
+    requires { ⌜ Waits used ⌝ }
+    ensures { λ r. ⌜ Waits r ⌝ }
+{
+    match verb {
+        GROUP => groups::group(line, at, room, out, used),
+        WRITE => writes::write(line, at, room, out, used),
+        EDIT => edits::edit(line, at, room, out, used),
+        SCREEN => edits::screen(line, at, out, used),
+        _ => put_bad(out, used),
+    }
+}
+
+// A line is answered by its verb. `room` and `name` hold the BYTES of a line.
 pub fn answer(
     line: &[u8],
     room: &mut [u8; ROOM],
     name: &mut [u8; ROOM],
-    list: &mut [usize; LIST],
     out: &mut [u8; OUT],
     used: usize,
 ) -> usize
@@ -31,17 +50,14 @@ pub fn answer(
     ensures { λ r. ⌜ Waits r ⌝ }
 {
     let at = verb_end(line);
-    match verb_of(line, at) {
+    let verb = verb_of(line, at);
+    match verb {
         FIND => reads::find(line, at, room, out, used),
         BODY => reads::body(line, at, room, out, used),
         VOICE => asks::voice(line, at, room, out, used),
         PLAYS => asks::plays(line, at, room, name, out, used),
         PLACE => asks::place(line, at, out, used),
-        SALVAGE => lists::salvage(line, at, room, list, out, used),
-        GROUP => groups::group(line, at, room, out, used),
-        WRITE => writes::write(line, at, name, out, used),
-        EDIT => edits::edit(line, at, room, out, used),
-        SCREEN => edits::screen(line, at, out, used),
-        _ => put_bad(out, used),
+        SALVAGE => lists::salvage(line, at, room, out, used),
+        _ => answer_records(line, at, verb, room, out, used),
     }
 }

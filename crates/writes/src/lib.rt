@@ -91,19 +91,19 @@ fn put_new(
 pub fn write(
     line: &[u8],
     at: usize,
-    name: &mut [u8; ROOM],
+    room: &mut [u8; ROOM],
     out: &mut [u8; OUT],
     used: usize,
 ) -> usize
     requires { ⌜ Waits used ⌝ }
     ensures { λ r. ⌜ Waits r ⌝ }
 {
-    let Taken::Bytes(length, end) = take_bytes(line, at, name) else {
+    let Taken::Bytes(length, end) = take_bytes(line, at, room) else {
         return put_bad(out, used);
     };
-    let Two::Are(count, room, last) = take_two(line, end) else {
+    let Two::Are(count, lent, last) = take_two(line, end) else {
         return put_bad(out, used);
     };
     let rows = take_records(line, last);
-    put_new(out, used, first(name, length), rows, count, room)
+    put_new(out, used, first(room, length), rows, count, lent)
 }

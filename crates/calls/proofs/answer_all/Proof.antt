@@ -6,10 +6,10 @@ use Rattle.calls.proofs.answer_all.Statement.{statement}
 use Rattle.calls.proofs.answer_all.Tie as tie
 
 abbrev Inv-loop : tie.InvT-loop
-Inv-loop text₀ room₀ name₀ list₀ out₀ turns₀ reader₀ used₀ text room name list out turns reader used = (Sound reader) × (Waits used)
+Inv-loop text₀ room₀ name₀ out₀ turns₀ reader₀ used₀ text room name out turns reader used = (Sound reader) × (Waits used)
 
 abbrev μ-loop : tie.MeasureT-loop
-μ-loop text₀ room₀ name₀ list₀ out₀ turns₀ reader₀ used₀ text room name list out turns reader used = turns
+μ-loop text₀ room₀ name₀ out₀ turns₀ reader₀ used₀ text room name out turns reader used = turns
 
 start-requires : tie.Need-start-requires Inv-loop μ-loop
 start-requires c κs = search needs
