@@ -39,7 +39,7 @@ static size_t group(uint8_t *at, unsigned number, unsigned channels, unsigned na
 static uint8_t sound[32768], damaged[32768], small[32768], csegs[32768], none[32768], edited[2][32768];
 static size_t sound_size, small_size, sound_half, small_half;
 static uint8_t few[1048576], half_few[1048576], many[1048576], half_many[1048576];
-static size_t list[2][24576];
+static size_t list[2][24579];
 static uint8_t table[16 * 28], buffer[2][2048];
 static casm_row rows[4096];
 static size_t sections = 8000;
@@ -85,7 +85,8 @@ static uint64_t lent(const void *at, size_t size)
 
 static const uint8_t *in;
 static size_t in_size;
-static size_t written = 16; /* records of a group that is written */
+static size_t written = 16;     /* records of a group that is written */
+static size_t numbers = 24576; /* numbers of the lent list */
 static int checking; /* lent memory is folded in only where answers are compared */
 
 #define FIND(call) { casm_section r = call(in, in_size); return mix(mix(mix(r.number, r.place), r.tag), r.length); }
@@ -94,7 +95,7 @@ static uint64_t find_plain(void) FIND(plain_find)
 #define BODY(call) { casm_count r = call(in, in_size); return mix(mix(r.number, r.place), r.count); }
 static uint64_t body_proved(void) BODY(casm_body)
 static uint64_t body_plain(void) BODY(plain_body)
-#define SALVAGE(call, l) { casm_count r = call(in, in_size, l, 24576); return mix(mix(mix(r.number, r.place), r.count), checking ? lent(l, sizeof l) : 0); }
+#define SALVAGE(call, l) { casm_count r = call(in, in_size, l, numbers); return mix(mix(mix(r.number, r.place), r.count), checking ? lent(l, sizeof l) : 0); }
 static uint64_t salvage_proved(void) SALVAGE(casm_salvage, list[0])
 static uint64_t salvage_plain(void) SALVAGE(plain_salvage, list[1])
 #define PLAYS(call) { casm_players r = call(in, in_size, (const uint8_t *)"Part B5 3", 9, 7, 20); return mix(mix(mix(r.number, r.place), r.count), lent(r.channels, 16)); }
@@ -183,19 +184,20 @@ static void job(const char *name, uint64_t (*proved)(void), uint64_t (*plain)(vo
 }
 
 static void on(const uint8_t *from, size_t size) { in = from, in_size = size; }
+static void sized(const uint8_t *from, size_t size, size_t records) { on(from, size), written = records, numbers = 3 * (size / 4 + 1); }
 
 /* What the call costs on an input of twice the size: the median of the rounds, each of which times both. */
 static void doubled(const char *name, uint64_t (*call)(void), const uint8_t *half, size_t half_size, size_t half_written, const uint8_t *whole, size_t size)
 {
     double ratios[ROUNDS], one;
     int calls = 1, rounds = ROUNDS;
-    on(whole, size), written = 16;
+    sized(whole, size, 16);
     while ((one = timed(call, calls)) * calls < 0.004 && calls < 1000000) calls *= 2;
     if (one > 1) rounds = 3;
     for (int i = 0; i < rounds; i++) {
-        on(half, half_size), written = half_written;
+        sized(half, half_size, half_written);
         double a = timed(call, calls);
-        on(whole, size), written = 16;
+        sized(whole, size, 16);
         ratios[i] = timed(call, calls) / a;
     }
     qsort(ratios, (size_t)rounds, sizeof *ratios, by_size);
