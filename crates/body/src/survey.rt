@@ -42,7 +42,7 @@ fn group_turn(
     n: usize,
     at: usize,
     places: &[usize; 32],
-    marks: &mut [bool; 2048],
+    marks: &mut [bool; 1024],
 ) -> Turned
     requires { ⌜ (at ≡ groupPlace (now s) n) × ((at ≤ length (now s)) × ((n ≤ 32) × (Places (now s) n (now places) × Marks (now s) n (now marks)))) ⌝ }
     ensures { λ r. ⌜ GroupTurned (now (s .entry)) n at r (now (marks .exit)) ⌝ }
@@ -94,7 +94,7 @@ pub fn read_groups(s: &[u8]) -> Survey
             seconds: seconds,
         };
     }
-    let mut marks: [bool; 2048] = [false; 2048];
+    let mut marks: [bool; 1024] = [false; 1024];
     let mut n: usize = 0;
     let mut at: usize = 0;
     loop {

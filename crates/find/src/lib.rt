@@ -44,12 +44,12 @@ fn standing_at(s: &[u8], at: usize, records: usize, seconds: usize) -> Standing
 }
 
 // Group number k of n, by the tables of what is known of them.
-fn group_numbered(
+fn group_numbered<'a>(
     s: &[u8],
     n: usize,
-    places: &[usize; 32],
-    records: &[usize; 32],
-    seconds: &[usize; 32],
+    places: &'a [usize; 32],
+    records: &'a [usize; 32],
+    seconds: &'a [usize; 32],
     k: usize,
 ) -> Search
     requires { ⌜ (n ≤ 32) × (Places (now s) n (now places) × Insides (now s) n (now records) (now seconds)) ⌝ }
@@ -67,13 +67,10 @@ pub fn find_group(s: &[u8], group: usize) -> Search
     ensures { λ r. ⌜ r ≡ groupLocated (now (s .entry)) group ⌝ }
 {
     let read = read_groups(s);
-    let places = read.places;
-    let records = read.records;
-    let seconds = read.seconds;
     let run = read.run;
     match run {
         Run::Stopped(number, place) => Search::Refused(number, place),
-        Run::Ended(n) => group_numbered(s, n, &places, &records, &seconds, group),
+        Run::Ended(n) => group_numbered(s, n, &read.places, &read.records, &read.seconds, group),
     }
 }
 
@@ -82,15 +79,12 @@ pub fn find_part(s: &[u8], name: &[u8]) -> Search
     ensures { λ r. ⌜ r ≡ partLocated (now (s .entry)) (now (name .entry)) ⌝ }
 {
     let read = read_groups(s);
-    let places = read.places;
-    let records = read.records;
-    let seconds = read.seconds;
     let run = read.run;
     match run {
         Run::Stopped(number, place) => Search::Refused(number, place),
         Run::Ended(n) => {
-            let k = named::group_named(s, n, &places, name);
-            group_numbered(s, n, &places, &records, &seconds, k)
+            let k = named::group_named(s, n, &read.places, name);
+            group_numbered(s, n, &read.places, &read.records, &read.seconds, k)
         }
     }
 }

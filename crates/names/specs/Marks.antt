@@ -4,7 +4,7 @@ use mathlib.Core.List.{List, [], _∷_}
 
 -- so many marks there are
 abbrev pub marksCount : ℕ
-marksCount = 2048
+marksCount = 1024
 
 -- the mark that m becomes by each of the bytes in turn
 unfoldable pub markFrom : ℕ → List ℕ → ℕ
