@@ -1,24 +1,20 @@
-// The verbs of the bench `calls` that ask: who plays, what a voice is called, and where a note goes. Each takes the tokens behind the
-// verb, which ends at `at`, makes one call of the library and prints the answer.
+// The verbs of the bench `calls` that ask a body: who plays, and what a voice is called. Each takes the tokens behind the verb, which
+// ends at `at`, makes one call of the library and prints the answer.
 ghost use Rattle.script.specs.Printing.{Waits};
-use casm::questions::place_note;
 use casm::questions::who_plays;
 use layout::record::SourceChannel;
 use numbers::Pair;
 use numbers::Tail;
 use numbers::take_pair;
 use numbers::take_tail;
-use records::record_at;
 use script::print::OUT;
 use script::print::put_bad;
-use tells::put_placed;
 use tells::put_played;
 use tells::put_voice;
 use tokens::ROOM;
 use tokens::Taken;
 use tokens::first;
 use tokens::take_bytes;
-use words::rec::record_end;
 
 // `plays BYTES NAME ROOT TYPE`
 pub fn plays(
@@ -63,20 +59,4 @@ pub fn voice(
         return put_bad(out, used);
     };
     put_voice(out, used, first(room, count), group, SourceChannel(channel))
-}
-
-// `place REC ROOT NOTE`
-pub fn place(line: &[u8], at: usize, out: &mut [u8; OUT], used: usize) -> usize
-    requires { ⌜ Waits used ⌝ }
-    ensures { λ r. ⌜ Waits r ⌝ }
-{
-    let end = record_end(line, at);
-    if end == 0 {
-        return put_bad(out, used);
-    }
-    let Pair::Are(root, note) = take_pair(line, end) else {
-        return put_bad(out, used);
-    };
-    let placed = place_note(record_at(line, at), root, note);
-    put_placed(out, used, placed)
 }

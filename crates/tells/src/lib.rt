@@ -1,4 +1,4 @@
-// What the questions of the bench `calls` were answered, printed: a refusal, or what was asked for.
+// What the calls of the bench `calls` were answered, printed: a refusal, or what was asked for.
 ghost use Rattle.script.specs.Printing.{Waits};
 use casm::questions::find_voice;
 use casm::questions::voice_name;
@@ -13,7 +13,21 @@ use script::print::put_number;
 use script::print::put_ok;
 use script::print::put_one;
 use script::print::put_refusal;
+use script::print::put_refused;
 use script::print::put_text;
+
+// The answer's number and place, or `ok`, and a space: what stands behind is printed either way.
+pub fn put_answer(out: &mut [u8; OUT], used: usize, number: u8, place: usize) -> usize
+    requires { ⌜ Waits used ⌝ }
+    ensures { λ r. ⌜ Waits r ⌝ }
+{
+    if number != 0 {
+        let refused = put_refused(out, used, number, place);
+        return put(out, refused, b' ');
+    }
+    let accepted = put_ok(out, used);
+    put(out, accepted, b' ')
+}
 
 // The first `count` channels.
 fn put_channels(

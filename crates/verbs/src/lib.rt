@@ -1,5 +1,5 @@
-// A line of a script is answered by the verb that it begins with. What the verbs do stands in `reads`, `lists`, `asks`, `edits`, `groups`
-// and `writes`.
+// A line of a script is answered by the verb that it begins with. What the verbs do stands in `reads`, `lists`, `asks`, `alone`, `edits`,
+// `groups` and `writes`.
 ghost use Rattle.script.specs.Printing.{Waits};
 use script::print::OUT;
 use script::print::put_bad;
@@ -33,7 +33,7 @@ fn answer_records(
         GROUP => groups::group(line, at, room, out, used),
         WRITE => writes::write(line, at, room, out, used),
         EDIT => edits::edit(line, at, room, out, used),
-        SCREEN => edits::screen(line, at, out, used),
+        SCREEN => alone::screen(line, at, out, used),
         _ => put_bad(out, used),
     }
 }
@@ -56,7 +56,7 @@ pub fn answer(
         BODY => reads::body(line, at, room, out, used),
         VOICE => asks::voice(line, at, room, out, used),
         PLAYS => asks::plays(line, at, room, name, out, used),
-        PLACE => asks::place(line, at, out, used),
+        PLACE => alone::place(line, at, out, used),
         SALVAGE => lists::salvage(line, at, room, out, used),
         _ => answer_records(line, at, verb, room, out, used),
     }
