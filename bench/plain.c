@@ -135,8 +135,8 @@ static _Bool has_name(const uint8_t *t, size_t n, const uint8_t *name, size_t si
 static _Bool named_before(const uint8_t *s, const struct group *groups, const size_t *places, size_t k, const uint8_t *t, size_t n, uint8_t *marks)
 {
     for (size_t i = 0, from = 0, mark = 0; i <= n; i++) {
-        if (i < n && t[i] != ',') { mark = mark * 31 + t[i]; continue; }
-        mark %= 1024;
+        if (i < n && t[i] != ',') { mark = mark * 241 + t[i]; continue; }
+        mark %= 2048;
         if (marks[mark])
             for (size_t j = 0; j < k; j++)
                 if (has_name(s + places[j] + 16, groups[j].length, t + from, i - from)) return 1;
@@ -148,7 +148,7 @@ static _Bool named_before(const uint8_t *s, const struct group *groups, const si
 
 static struct fault read_groups(const uint8_t *s, size_t size, struct group *groups, size_t *places, size_t *count)
 {
-    uint8_t marks[1024] = {0};
+    uint8_t marks[2048] = {0};
     size_t k = 0;
     if (size > BODY_LIMIT) return FAULT(3, 0);
     for (size_t at = 0; at != size; k++) {

@@ -16,7 +16,7 @@ use Rattle.layout.specs.declared.turn.Judged.the-variants.{Unsound, Sound}
 use Rattle.layout.specs.declared.turn.Run.the-variants.{Ended}
 use Rattle.layout.proofs.Scans.{ended-once}
 use Rattle.layout.proofs.Heads.{head-sound}
-use Rattle.layout.proofs.Groups.{contents-place}
+use Rattle.layout.proofs.Groups.{contents-place, group-sound-is}
 use Rattle.layout.proofs.Bodies.{there-empty, there-unsound, there-sound, turn-end, turn-head, turn-many, turn-unsound, turn-sound, group-more, group-there}
 use Rattle.named.specs.Before.{Places, NamedBefore}
 use Rattle.named.proofs.Marked.{marks-next}
@@ -145,6 +145,12 @@ module _ (s : List ℕ) where
         go k a (no b) =
             let q : k ≡ n = omega arith in
             rw (q, ← here, getD-set-same t n x 0 (omega (arith, known .sizes .0)), getD-set-same u n y 0 (omega (arith, known .sizes .1))) h
+
+-- a body that is not over the limit has no room for more Ctabs or Cntts than two bytes count
+pub counts-small : (s : List ℕ) (at x y : ℕ) → groupAt (drop at s) ≡ Sound (word s (at + 12)) x y → length s ≤ 32768 → (x < 65536) × (y < 65536)
+counts-small s at x y h l =
+    let g = group-sound-is (drop at s) (word s (at + 12)) x y h in
+    (omega (arith, g .size, g .within, length-drop at s), omega (arith, g .size, g .within, length-drop at s))
 
 -- a turn that goes on: the group is one of 32, and it and its text stand within the body
 pub more-within : (s : List ℕ) (n at : ℕ) (r : Turned) (marks : List Bool) → GroupTurned s n at r marks → at ≡ groupPlace s n → at ≤ length s → r .turn ≡ More

@@ -21,8 +21,8 @@ pub struct Turned {
 pub struct Survey {
     pub run: Run,
     pub places: [usize; 32],
-    pub records: [usize; 32],
-    pub seconds: [usize; 32],
+    pub records: [u16; 32],
+    pub seconds: [u16; 32],
 }
 
 // A turn that does not go on.
@@ -42,7 +42,7 @@ fn group_turn(
     n: usize,
     at: usize,
     places: &[usize; 32],
-    marks: &mut [bool; 1024],
+    marks: &mut [bool; 2048],
 ) -> Turned
     requires { ⌜ (at ≡ groupPlace (now s) n) × ((at ≤ length (now s)) × ((n ≤ 32) × (Places (now s) n (now places) × Marks (now s) n (now marks)))) ⌝ }
     ensures { λ r. ⌜ GroupTurned (now (s .entry)) n at r (now (marks .exit)) ⌝ }
@@ -84,8 +84,8 @@ pub fn read_groups(s: &[u8]) -> Survey
     ensures { λ r. ⌜ Surveyed (now (s .entry)) r ⌝ }
 {
     let mut places: [usize; 32] = [0; 32];
-    let mut records: [usize; 32] = [0; 32];
-    let mut seconds: [usize; 32] = [0; 32];
+    let mut records: [u16; 32] = [0; 32];
+    let mut seconds: [u16; 32] = [0; 32];
     if 32768 < s.len() {
         return Survey {
             run: Run::Stopped(3, 0),
@@ -94,7 +94,7 @@ pub fn read_groups(s: &[u8]) -> Survey
             seconds: seconds,
         };
     }
-    let mut marks: [bool; 1024] = [false; 1024];
+    let mut marks: [bool; 2048] = [false; 2048];
     let mut n: usize = 0;
     let mut at: usize = 0;
     loop {
@@ -120,8 +120,8 @@ pub fn read_groups(s: &[u8]) -> Survey
             Turn::More => {}
         }
         places[n] = at;
-        records[n] = t.records;
-        seconds[n] = t.seconds;
+        records[n] = t.records as u16;
+        seconds[n] = t.seconds as u16;
         at = at + 8 + scan::word_at(s, at + 4);
         n += 1;
     }

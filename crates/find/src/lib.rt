@@ -25,21 +25,22 @@ pub enum Search {
 }
 
 // Where the parts of the group at `at` stand, which has so many Ctabs and Cntts.
-fn standing_at(s: &[u8], at: usize, records: usize, seconds: usize) -> Standing
+fn standing_at(s: &[u8], at: usize, records: u16, seconds: u16) -> Standing
     requires { ⌜ (at ≤ length (now s)) × (groupAt (drop at (now s)) ≡ Sound (word (now s) (at + 12)) records seconds) ⌝ }
     ensures { λ r. ⌜ r ≡ standingAt (now (s .entry)) at (groupAt (drop at (now (s .entry)))) ⌝ }
 {
     let length = scan::word_at(s, at + 12);
     let ctabs = at + 16 + length;
+    let n = records as usize;
     Standing {
         at: at,
         size: 8 + scan::word_at(s, at + 4),
         text: at + 16,
         length: length,
         ctabs: ctabs,
-        records: records,
-        cntts: ctabs + 35 * records,
-        seconds: seconds,
+        records: n,
+        cntts: ctabs + 35 * n,
+        seconds: seconds as usize,
     }
 }
 
@@ -48,8 +49,8 @@ fn group_numbered<'a>(
     s: &[u8],
     n: usize,
     places: &'a [usize; 32],
-    records: &'a [usize; 32],
-    seconds: &'a [usize; 32],
+    records: &'a [u16; 32],
+    seconds: &'a [u16; 32],
     k: usize,
 ) -> Search
     requires { ⌜ (n ≤ 32) × (Places (now s) n (now places) × Insides (now s) n (now records) (now seconds)) ⌝ }

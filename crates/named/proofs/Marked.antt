@@ -60,7 +60,7 @@ module _ (s : List ℕ) (n : ℕ) (marks : List Bool) (known : Marks s n marks) 
           let q : first (hasPart s name) 0 n ≡ n = omega (arith, first-within (hasPart s name) n, named-start s name n) in
           new name (hasPart s name n) refl (named-start s name (n + 1) ∙ first-grown (hasPart s name) n q) l
 
-pub marks-start : (s : List ℕ) (marks : List Bool) → length marks ≡ 1024 → Marks s 0 marks
+pub marks-start : (s : List ℕ) (marks : List Bool) → length marks ≡ 2048 → Marks s 0 marks
 marks-start s marks e = record { size = e; set = λ name l. absurd (omega arith) }
 
 -- ---- the names of a text, up to the one that starts at i
@@ -110,7 +110,7 @@ module _ (s : List ℕ) (n at : ℕ) (t : List ℕ) (marks : List Bool) where
             marked = λ f. absurd (false≢true (sym f));
           }
 
-      pub passing-next : (m : ℕ) → m ≡ mark (part t i e) → m < 1024 → false ≡ ltb (groupNamed s n (part t i e)) n → Passing s n at t (e + 1) (set marks m true)
+      pub passing-next : (m : ℕ) → m ≡ mark (part t i e) → m < 2048 → false ≡ ltb (groupNamed s n (part t i e)) n → Passing s n at t (e + 1) (set marks m true)
       unfolding taken
       passing-next m q l h =
           record {

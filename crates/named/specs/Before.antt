@@ -19,7 +19,7 @@ pub record Places (s : List ℕ) (n : ℕ) (places : List ℕ) : Type 0 where
 
 -- a table of marks, in which every name of the first n groups has its mark set
 pub record Marks (s : List ℕ) (n : ℕ) (marks : List Bool) : Type 0 where
-  pub size : length marks ≡ 1024
+  pub size : length marks ≡ 2048
   pub set : (name : List ℕ) → groupNamed s n name < n → getD marks (mark name) false ≡ true
 
 -- .. and every name of a text has

@@ -42,7 +42,7 @@ pub fn is_named_before(
     s: &[u8],
     n: usize,
     places: &[usize; 32],
-    marks: &mut [bool; 1024],
+    marks: &mut [bool; 2048],
     at: usize,
     text: usize,
 ) -> bool

@@ -4,12 +4,12 @@ use mathlib.Core.List.{List, [], _∷_}
 
 -- so many marks there are
 abbrev pub marksCount : ℕ
-marksCount = 1024
+marksCount = 2048
 
 -- the mark that m becomes by each of the bytes in turn
 unfoldable pub markFrom : ℕ → List ℕ → ℕ
 markFrom m [] = m
-markFrom m (b ∷ name) = markFrom ((m * 31 + b) % marksCount) name
+markFrom m (b ∷ name) = markFrom ((m * 241 + b) % marksCount) name
 
 -- the mark of a name
 unfoldable pub mark : List ℕ → ℕ

@@ -135,12 +135,12 @@ pub fn has_name(t: &[u8], name: &[u8]) -> bool
 
 // The mark of a name. The remainder is by a power of two: a mask.
 pub fn mark_of(name: &[u8]) -> usize
-    ensures { λ r. ⌜ (r ≡ mark (now (name .entry))) × (r < 1024) ⌝ }
+    ensures { λ r. ⌜ (r ≡ mark (now (name .entry))) × (r < 2048) ⌝ }
 {
     let mut m: usize = 0;
     let mut k: usize = 0;
     while k < name.len() {
-        m = (m * 31 + wide(name[k])) % 1024;
+        m = (m * 241 + wide(name[k])) % 2048;
         k += 1;
     }
     m

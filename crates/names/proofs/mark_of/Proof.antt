@@ -1,4 +1,4 @@
--- The mark of the whole is what the bytes from k on make of m; m stays below 1024.
+-- The mark of the whole is what the bytes from k on make of m; m stays below 2048.
 use Prim.Native.Nat.{_-_, _≤_, _<_}
 use native.Mathlib.Omega.{arith}
 use mathlib.Core.Path.{_≡_, sym, _∙_}
@@ -10,7 +10,7 @@ use Rattle.names.proofs.mark_of.Statement.{statement}
 use Rattle.names.proofs.mark_of.Tie as tie
 
 abbrev Inv-loop : tie.InvT-loop
-Inv-loop name m₀ k₀ m k = (k ≤ length name) × ((m < 1024) × (mark name ≡ markFrom m (drop k name)))
+Inv-loop name m₀ k₀ m k = (k ≤ length name) × ((m < 2048) × (mark name ≡ markFrom m (drop k name)))
 
 abbrev μ-loop : tie.MeasureT-loop
 μ-loop name m₀ k₀ m k = length name - k

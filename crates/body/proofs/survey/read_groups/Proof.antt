@@ -11,7 +11,7 @@ use Rattle.layout.proofs.Bodies.{body-over, body-within, place-next}
 use Rattle.named.specs.Before.{Places, Marks}
 use Rattle.named.proofs.Marked.{marks-start}
 use Rattle.body.specs.Known.{Insides}
-use Rattle.body.proofs.TurnLaws.{places-start, insides-start, places-next, insides-next, more-within, ended-known}
+use Rattle.body.proofs.TurnLaws.{places-start, insides-start, places-next, insides-next, more-within, counts-small, ended-known}
 use borrow.Author.Needs.{needs}
 use Rattle.body.proofs.survey.read_groups.Statement.{statement}
 use Rattle.body.proofs.survey.read_groups.Tie as tie
@@ -28,7 +28,7 @@ returns c = record { run = sym (body-over _ (omega arith)); known = λ n e. not-
 
 loop-holds : tie.Need-loop-holds Inv-loop μ-loop
 unfolding groupPlace
-loop-holds c = (omega arith, (refl, (omega arith, (places-start _ _ refl, (insides-start _ _ _ refl refl, (marks-start _ _ (length-replicate 1024 false), body-within _ (omega arith)))))))
+loop-holds c = (omega arith, (refl, (omega arith, (places-start _ _ refl, (insides-start _ _ _ refl refl, (marks-start _ _ (length-replicate 2048 false), body-within _ (omega arith)))))))
 
 group-turn-requires : tie.Need-group-turn-requires Inv-loop μ-loop
 group-turn-requires c κs = let l = c .before .before .loop in (l .inv .1 .0, (l .inv .1 .1 .0, (l .inv .0, (l .inv .1 .1 .1 .0, l .inv .1 .1 .1 .1 .1 .0))))
@@ -67,31 +67,50 @@ array-write-places c =
     let more = more-within _ _ _ _ _ (g .group-turn .ensures) (l .inv .1 .0) (l .inv .1 .1 .0) (c .enum-told2 .given .1) in
     more .0
 
+cast-records : tie.Need-cast-records Inv-loop μ-loop
+cast-records c =
+    let e = c .before in
+    let g = e .before .before in
+    let a = g .before .before .before .before .before .before .args in
+    let small = counts-small (a .s .now) _ _ _ (g .group-turn .ensures .sound (e .enum-told2 .given .1)) (omega arith) in
+    omega (arith, small .0)
+
 mul-records : tie.Need-mul-records Inv-loop μ-loop
 mul-records c = search needs
 
 array-write-records : tie.Need-array-write-records Inv-loop μ-loop
 array-write-records c =
-    let g = c .before .before in
+    let e = c .before in
+    let g = e .before .before in
     let l = g .before .before .before .loop in
-    let more = more-within _ _ _ _ _ (g .group-turn .ensures) (l .inv .1 .0) (l .inv .1 .1 .0) (c .enum-told2 .given .1) in
+    let more = more-within _ _ _ _ _ (g .group-turn .ensures) (l .inv .1 .0) (l .inv .1 .1 .0) (e .enum-told2 .given .1) in
     more .0
+
+cast-seconds : tie.Need-cast-seconds Inv-loop μ-loop
+cast-seconds c =
+    let e = c .before .before in
+    let g = e .before .before in
+    let a = g .before .before .before .before .before .before .args in
+    let small = counts-small (a .s .now) _ _ _ (g .group-turn .ensures .sound (e .enum-told2 .given .1)) (omega arith) in
+    omega (arith, small .1)
 
 mul-seconds : tie.Need-mul-seconds Inv-loop μ-loop
 mul-seconds c = search needs
 
 array-write-seconds : tie.Need-array-write-seconds Inv-loop μ-loop
 array-write-seconds c =
-    let g = c .before .before in
+    let e = c .before .before in
+    let g = e .before .before in
     let l = g .before .before .before .loop in
-    let more = more-within _ _ _ _ _ (g .group-turn .ensures) (l .inv .1 .0) (l .inv .1 .1 .0) (c .enum-told2 .given .1) in
+    let more = more-within _ _ _ _ _ (g .group-turn .ensures) (l .inv .1 .0) (l .inv .1 .1 .0) (e .enum-told2 .given .1) in
     more .0
 
 add-at : tie.Need-add-at Inv-loop μ-loop
 add-at c =
-    let g = c .before .before in
+    let e = c .before .before in
+    let g = e .before .before in
     let l = g .before .before .before .loop in
-    let more = more-within _ _ _ _ _ (g .group-turn .ensures) (l .inv .1 .0) (l .inv .1 .1 .0) (c .enum-told2 .given .1) in
+    let more = more-within _ _ _ _ _ (g .group-turn .ensures) (l .inv .1 .0) (l .inv .1 .1 .0) (e .enum-told2 .given .1) in
     omega (arith, more .1 .0)
 
 add-word-at : tie.Need-add-word-at Inv-loop μ-loop
@@ -99,16 +118,18 @@ add-word-at c = search needs
 
 word-at-requires : tie.Need-word-at-requires Inv-loop μ-loop
 word-at-requires c κs =
-    let g = c .before .before in
+    let e = c .before .before in
+    let g = e .before .before in
     let l = g .before .before .before .loop in
-    let more = more-within _ _ _ _ _ (g .group-turn .ensures) (l .inv .1 .0) (l .inv .1 .1 .0) (c .enum-told2 .given .1) in
+    let more = more-within _ _ _ _ _ (g .group-turn .ensures) (l .inv .1 .0) (l .inv .1 .1 .0) (e .enum-told2 .given .1) in
     omega (arith, more .1 .0)
 
 add-at-2 : tie.Need-add-at-2 Inv-loop μ-loop
 add-at-2 c =
-    let g = c .before .before .before in
+    let e = c .before .before .before in
+    let g = e .before .before in
     let l = g .before .before .before .loop in
-    let more = more-within _ _ _ _ _ (g .group-turn .ensures) (l .inv .1 .0) (l .inv .1 .1 .0) (c .before .enum-told2 .given .1) in
+    let more = more-within _ _ _ _ _ (g .group-turn .ensures) (l .inv .1 .0) (l .inv .1 .1 .0) (e .enum-told2 .given .1) in
     omega (arith, more .1 .0, c .word-at .ensures .0)
 
 add-n : tie.Need-add-n Inv-loop μ-loop
@@ -116,17 +137,19 @@ add-n c = search needs
 
 loop-less : tie.Need-loop-less Inv-loop μ-loop
 loop-less c =
-    let g = c .before .before .before in
+    let e = c .before .before .before in
+    let g = e .before .before in
     let l = g .before .before .before .loop in
-    let more = more-within _ _ _ _ _ (g .group-turn .ensures) (l .inv .1 .0) (l .inv .1 .1 .0) (c .before .enum-told2 .given .1) in
+    let more = more-within _ _ _ _ _ (g .group-turn .ensures) (l .inv .1 .0) (l .inv .1 .1 .0) (e .enum-told2 .given .1) in
     omega (arith, more .0)
 
 loop-again : tie.Need-loop-again Inv-loop μ-loop
 loop-again c =
-    let g = c .before .before .before in
+    let e = c .before .before .before in
+    let g = e .before .before in
     let l = g .before .before .before .loop in
-    let more = more-within _ _ _ _ _ (g .group-turn .ensures) (l .inv .1 .0) (l .inv .1 .1 .0) (c .before .enum-told2 .given .1) in
-    let told = g .group-turn .ensures .sound (c .before .enum-told2 .given .1) in (
+    let more = more-within _ _ _ _ _ (g .group-turn .ensures) (l .inv .1 .0) (l .inv .1 .1 .0) (e .enum-told2 .given .1) in
+    let told = g .group-turn .ensures .sound (e .enum-told2 .given .1) in (
       omega (arith, more .0),
       (
         sym (place-next _ _ _ (l .inv .1 .0) ∙ omega (arith, c .word-at .ensures .0)),
@@ -137,8 +160,8 @@ loop-again c =
             (
               insides-next _ _ _ (more .0) (l .inv .1 .0) _ _ _ _ (l .inv .1 .1 .1 .1 .0) told,
               (
-                g .group-turn .ensures .marked (c .before .enum-told2 .given .1),
-                l .inv .1 .1 .1 .1 .1 .1 ∙ run-more _ _ _ (omega arith) (sym (g .group-turn .ensures .turn) ∙ c .before .enum-told2 .given .1),
+                g .group-turn .ensures .marked (e .enum-told2 .given .1),
+                l .inv .1 .1 .1 .1 .1 .1 ∙ run-more _ _ _ (omega arith) (sym (g .group-turn .ensures .turn) ∙ e .enum-told2 .given .1),
               ),
             ),
           ),
@@ -162,8 +185,10 @@ read-groups-spec =
     enum-told-2
     mul-places
     array-write-places
+    cast-records
     mul-records
     array-write-records
+    cast-seconds
     mul-seconds
     array-write-seconds
     add-at
