@@ -3,3 +3,4 @@ pub mod Salvage
 pub mod Rounds
 pub mod Refusals
 pub mod LentMemory
+pub mod Calls

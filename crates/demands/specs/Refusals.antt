@@ -1,7 +1,7 @@
 -- Demand 1: "Each refusal carries its number and its place from document 01, is given only under the stated condition, and changes no byte of lent memory." Lent memory stands in LentMemory.
 -- `GivenUnder` says more than "only": a number and place are given wherever their condition holds, so those of two refusals never hold at once. The conditions stand in the specs of `refusals`:
 -- a case for each row of document 01's table, over positions in the lent bytes.
--- "Every call takes every input and ends. Callers need check nothing first": no call of the public face has a `requires`, and the gate proves each of them.
+-- "Every call takes every input and ends. Callers need check nothing first" stands in Calls.
 use Prim.Native.Nat.{ℕ}
 use mathlib.Core.Path.{_≡_}
 use mathlib.Core.List.{List}

@@ -13,7 +13,7 @@ module _ (name : List ℕ) where
   mark-start = refl
 
   module _ (m k : ℕ) where
-    pub mark-next : (b : ℕ) → k < length name → b ≡ getD name k 0 → markFrom m (drop k name) ≡ markFrom ((m * 241 + b) % 2048) (drop (k + 1) name)
+    pub mark-next : (b : ℕ) → k < length name → b ≡ getD name k 0 → markFrom m (drop k name) ≡ markFrom ((m * 31 + b) % 2048) (drop (k + 1) name)
     unfolding markFrom
     mark-next b h e = rw (e, drop-more name k h)
 

@@ -9,7 +9,7 @@ marksCount = 2048
 -- the mark that m becomes by each of the bytes in turn
 unfoldable pub markFrom : ℕ → List ℕ → ℕ
 markFrom m [] = m
-markFrom m (b ∷ name) = markFrom ((m * 241 + b) % marksCount) name
+markFrom m (b ∷ name) = markFrom ((m * 31 + b) % marksCount) name
 
 -- the mark of a name
 unfoldable pub mark : List ℕ → ℕ

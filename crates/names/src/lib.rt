@@ -140,7 +140,7 @@ pub fn mark_of(name: &[u8]) -> usize
     let mut m: usize = 0;
     let mut k: usize = 0;
     while k < name.len() {
-        m = (m * 241 + wide(name[k])) % 2048;
+        m = (m * 31 + wide(name[k])) % 2048;
         k += 1;
     }
     m
