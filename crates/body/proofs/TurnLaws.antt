@@ -3,7 +3,7 @@ use Prim.Native.Nat.{ℕ, _+_, _-_, _≤_, _<_}
 use native.Mathlib.Omega.{arith}
 use native.Mathlib.Decide.{decLt}
 use mathlib.Core.Path.{_≡_, refl, sym, ap, _∙_}
-use mathlib.Core.Bool.{Bool, true, false}
+use mathlib.Core.Bool.{true, false}
 use mathlib.Core.List.{List}
 use lib.ListN.{length, getD, set, take, drop, length-take, length-drop, length-set}
 use lib.Seq.{getD-set-same, getD-set-other}
@@ -51,36 +51,36 @@ module _ (s : List ℕ) (at f : ℕ) (e : f ≡ headFault s at (four 0x43534547)
 
 -- ---- the ways out of a turn
 
-module _ (s : List ℕ) (n at : ℕ) (here : at ≡ groupPlace s n) (r : Turned) (marks : List Bool) where
+module _ (s : List ℕ) (n at : ℕ) (here : at ≡ groupPlace s n) (r : Turned) (table : List ℕ) where
   turn-is : (t : Turn) → r .turn ≡ t → groupTurnAt s n at ≡ t → r .turn ≡ groupTurn s n
   unfolding groupTurn
   turn-is t e q = e ∙ (sym q ∙ ap (groupTurnAt s n) here)
 
-  ended : (t : Turn) → r .turn ≡ t → groupTurnAt s n at ≡ t → (t ≡ More → ⊥) → GroupTurned s n at r marks
-  ended t e q over = record { turn = turn-is t e q; sound = λ m. absurd (over (sym e ∙ m)); marked = λ m. absurd (over (sym e ∙ m)) }
+  ended : (t : Turn) → r .turn ≡ t → groupTurnAt s n at ≡ t → (t ≡ More → ⊥) → GroupTurned s n at r table
+  ended t e q over = record { turn = turn-is t e q; sound = λ m. absurd (over (sym e ∙ m)); noted = λ m. absurd (over (sym e ∙ m)) }
 
-  pub turned-end : at ≡ length s → r .turn ≡ Done → GroupTurned s n at r marks
+  pub turned-end : at ≡ length s → r .turn ≡ Done → GroupTurned s n at r table
   turned-end h e = ended Done e (turn-end s n at h) done-not-more
 
   module _ (o : at ≡ length s → ⊥) (f : ℕ) (e : f ≡ headFault s at (four 0x43534547)) where
-    refusing : (number place : ℕ) → r .turn ≡ Refused number place → groupTurnAt s n at ≡ Refused number place → GroupTurned s n at r marks
+    refusing : (number place : ℕ) → r .turn ≡ Refused number place → groupTurnAt s n at ≡ Refused number place → GroupTurned s n at r table
     refusing number place q t = ended (Refused number place) q t (refused-not-more number place)
 
-    pub turned-head : (f ≡ 0 → ⊥) → r .turn ≡ Refused f at → GroupTurned s n at r marks
+    pub turned-head : (f ≡ 0 → ⊥) → r .turn ≡ Refused f at → GroupTurned s n at r table
     turned-head h q = refusing f at q (turn-head s n at o f e h)
 
     module _ (z : f ≡ 0) where
-      pub turned-many : 32 ≤ n → r .turn ≡ Refused 12 at → GroupTurned s n at r marks
+      pub turned-many : 32 ≤ n → r .turn ≡ Refused 12 at → GroupTurned s n at r table
       turned-many h q = refusing 12 at q (turn-many s n at o f e z h)
 
       module _ (w : n < 32) (h : at ≤ length s) (l : ℕ) (q : l ≡ word s (at + 4)) where
-        pub turned-empty : l ≡ 0 → r .turn ≡ Refused 6 at → GroupTurned s n at r marks
+        pub turned-empty : l ≡ 0 → r .turn ≡ Refused 6 at → GroupTurned s n at r table
         turned-empty d t =
             let y : at + 0 ≡ at = omega arith in
             refusing 6 at t (rw y at (turn-unsound s n at o f e z w 6 0 (there-empty s at f h e z l q d)))
 
         module _ (d : l ≡ 0 → ⊥) where
-          pub turned-unsound : (number place : ℕ) → contents (inside s at l) ≡ Unsound number place → r .turn ≡ Refused number (at + 8 + place) → GroupTurned s n at r marks
+          pub turned-unsound : (number place : ℕ) → contents (inside s at l) ≡ Unsound number place → r .turn ≡ Refused number (at + 8 + place) → GroupTurned s n at r table
           turned-unsound number place c t =
               let y : at + (8 + place) ≡ at + 8 + place = omega arith in
               refusing number (at + 8 + place) t (rw y at (turn-unsound s n at o f e z w number (8 + place) (there-unsound s at f h e z l q d number place c)))
@@ -89,15 +89,15 @@ module _ (s : List ℕ) (n at : ℕ) (here : at ≡ groupPlace s n) (r : Turned)
             sound-there : groupAt (drop at s) ≡ Sound t c m
             sound-there = there-sound s at f h e z l q d t c m is
 
-            pub turned-again : NamedBefore s n at true marks → r .turn ≡ Refused 13 at → GroupTurned s n at r marks
+            pub turned-again : NamedBefore s n at true table → r .turn ≡ Refused 13 at → GroupTurned s n at r table
             turned-again b v = refusing 13 at v (turn-sound s n at o f e z w t c m true sound-there (sym (b .answer)))
 
-            pub turned-more : NamedBefore s n at false marks → r .turn ≡ More → r .records ≡ c → r .seconds ≡ m → GroupTurned s n at r marks
+            pub turned-more : NamedBefore s n at false table → r .turn ≡ More → r .records ≡ c → r .seconds ≡ m → GroupTurned s n at r table
             turned-more b v x y =
                 record {
                   turn = turn-is More v (turn-sound s n at o f e z w t c m false sound-there (sym (b .answer)));
                   sound = λ _. rw (x, y, ← (text-is s at f e z h l q t c m d is .0)) sound-there;
-                  marked = λ _. let own = b .marked refl in marks-next s n marks (own .0) at here (own .1);
+                  noted = λ _. let own = b .noted refl in marks-next s n table (own .0) at here (own .1);
                 }
 
 -- ---- the tables: empty at the start, one entry for each turn that goes on
@@ -153,10 +153,10 @@ counts-small s at x y h l =
     (omega (arith, g .size, g .within, length-drop at s), omega (arith, g .size, g .within, length-drop at s))
 
 -- a turn that goes on: the group is one of 32, and it and its text stand within the body
-pub more-within : (s : List ℕ) (n at : ℕ) (r : Turned) (marks : List Bool) → GroupTurned s n at r marks → at ≡ groupPlace s n → at ≤ length s → r .turn ≡ More
+pub more-within : (s : List ℕ) (n at : ℕ) (r : Turned) (table : List ℕ) → GroupTurned s n at r table → at ≡ groupPlace s n → at ≤ length s → r .turn ≡ More
     → (n < 32) × ((at + 8 + word s (at + 4) ≤ length s) × (at + 16 + word s (at + 12) ≤ length s))
 unfolding groupTurn
-more-within s n at r marks turned here h m =
+more-within s n at r table turned here h m =
     let g = group-there s n at (word s (at + 12)) (r .records) (r .seconds) h (turned .sound m) in
     let more = group-more s n at (rw here (sym (turned .turn) ∙ m)) in
     (more .few, (g .1 .1, omega (arith, g .1 .0, g .1 .1)))

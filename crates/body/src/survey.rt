@@ -1,5 +1,5 @@
 // One pass over a body. Where each group stands is kept, so that its names are found again without reading what is before them;
-// and the marks of the names so far, so that few names are looked for in the groups before.
+// and which names were met, so that few are looked for in the groups before.
 ghost use mathlib.Core.Path.{_≡_};
 ghost use Prim.Native.Nat.{_≤_};
 ghost use lib.ListN.{length};
@@ -36,16 +36,10 @@ fn ending(turn: Turn) -> Turned
     }
 }
 
-// Group number n, which stands at `at`. Where the turn goes on, its names are marked.
-fn group_turn(
-    s: &[u8],
-    n: usize,
-    at: usize,
-    places: &[usize; 32],
-    marks: &mut [bool; 2048],
-) -> Turned
-    requires { ⌜ (at ≡ groupPlace (now s) n) × ((at ≤ length (now s)) × ((n ≤ 32) × (Places (now s) n (now places) × Marks (now s) n (now marks)))) ⌝ }
-    ensures { λ r. ⌜ GroupTurned (now (s .entry)) n at r (now (marks .exit)) ⌝ }
+// Group number n, which stands at `at`. Where the turn goes on, its names are met.
+fn group_turn(s: &[u8], n: usize, at: usize, places: &[usize; 32], table: &mut [u8; 2080]) -> Turned
+    requires { ⌜ (at ≡ groupPlace (now s) n) × ((at ≤ length (now s)) × ((n ≤ 32) × (Places (now s) n (now places) × Marks (now s) n (now table)))) ⌝ }
+    ensures { λ r. ⌜ GroupTurned (now (s .entry)) n at r (now (table .exit)) ⌝ }
 {
     let whole = s.len();
     if at == whole {
@@ -67,7 +61,7 @@ fn group_turn(
     match group::judge_contents(&s[start..end]) {
         Judged::Unsound(number, place) => ending(Turn::Refused(number, start + place)),
         Judged::Sound(text, records, seconds) => {
-            if named::is_named_before(s, n, places, marks, at, text) {
+            if named::is_named_before(s, n, places, table, at, text) {
                 return ending(Turn::Refused(13, at));
             }
             Turned {
@@ -94,11 +88,11 @@ pub fn read_groups(s: &[u8]) -> Survey
             seconds: seconds,
         };
     }
-    let mut marks: [bool; 2048] = [false; 2048];
+    let mut table: [u8; 2080] = [0; 2080];
     let mut n: usize = 0;
     let mut at: usize = 0;
     loop {
-        let t = group_turn(s, n, at, &places, &mut marks);
+        let t = group_turn(s, n, at, &places, &mut table);
         let turn = t.turn;
         match turn {
             Turn::Refused(number, place) => {

@@ -10,6 +10,7 @@ use Rattle.layout.specs.Bytes.{word}
 use Rattle.layout.specs.Sdec.{names}
 use Rattle.layout.specs.Body.{groupPlace, textAt, sharing, groupNamed}
 use Rattle.names.specs.Marks.{mark}
+use Rattle.named.specs.Table.{met}
 
 -- a table of the places of n groups, whose texts stand within the body
 pub record Places (s : List ℕ) (n : ℕ) (places : List ℕ) : Type 0 where
@@ -17,16 +18,16 @@ pub record Places (s : List ℕ) (n : ℕ) (places : List ℕ) : Type 0 where
   pub place : (k : ℕ) → k < n → getD places k 0 ≡ groupPlace s k
   pub fits : (k : ℕ) → k < n → groupPlace s k + 16 + word s (groupPlace s k + 12) ≤ length s
 
--- a table of marks, in which every name of the first n groups has its mark set
-pub record Marks (s : List ℕ) (n : ℕ) (marks : List Bool) : Type 0 where
-  pub size : length marks ≡ 2048
-  pub set : (name : List ℕ) → groupNamed s n name < n → getD marks (mark name) false ≡ true
+-- a table of the names met, in which every name of the first n groups was
+pub record Marks (s : List ℕ) (n : ℕ) (table : List ℕ) : Type 0 where
+  pub size : length table ≡ 2080
+  pub each : (name : List ℕ) → groupNamed s n name < n → met table (mark name) ≡ true
 
--- .. and every name of a text has
-abbrev pub Noted : List ℕ → List Bool → Type 0
-Noted text marks = (name : List ℕ) → has (names text) name ≡ true → getD marks (mark name) false ≡ true
+-- .. and every name of a text was
+abbrev pub Noted : List ℕ → List ℕ → Type 0
+Noted text table = (name : List ℕ) → has (names text) name ≡ true → met table (mark name) ≡ true
 
--- whether one of the n groups has a name of the group at `at`; where none has, its names are marked with theirs
-pub record NamedBefore (s : List ℕ) (n at : ℕ) (r : Bool) (marks : List Bool) : Type 0 where
+-- whether one of the n groups has a name of the group at `at`; where none has, its names are met with theirs
+pub record NamedBefore (s : List ℕ) (n at : ℕ) (r : Bool) (table : List ℕ) : Type 0 where
   pub answer : r ≡ ltb (sharing s n at) n
-  pub marked : r ≡ false → Marks s n marks × Noted (textAt s at) marks
+  pub noted : r ≡ false → Marks s n table × Noted (textAt s at) table

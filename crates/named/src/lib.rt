@@ -1,5 +1,5 @@
 // Groups by the names of their parts: the first that has a name, and whether a new group has a name of one before it (document 01, "Strict body": 13).
-// Each name has a mark. A name whose mark was not met yet is a new one, so that few names are compared with those of the groups before.
+// Each name met is known again by its mark. One that was not met is new, so that few names are compared with those of the groups before.
 ghost use mathlib.Core.Path.{_≡_};
 ghost use mathlib.Core.Bool.{false};
 ghost use Prim.Native.Nat.{_+_, _≤_};
@@ -8,6 +8,8 @@ ghost use lib.ListN.{length};
 ghost use Rattle.layout.specs.Bytes.{word};
 ghost use Rattle.layout.specs.Body.{groupNamed};
 ghost use Rattle.named.specs.Before.{Places, Marks, NamedBefore};
+
+mod table;
 
 // The number of the first of n groups that has the part, or n where none has.
 pub fn group_named(s: &[u8], n: usize, places: &[usize; 32], name: &[u8]) -> usize
@@ -26,28 +28,28 @@ pub fn group_named(s: &[u8], n: usize, places: &[usize; 32], name: &[u8]) -> usi
     n
 }
 
-// Whether one of the n groups has the name. Where its mark is not set none has, and nothing is compared.
-fn is_taken(s: &[u8], n: usize, places: &[usize; 32], marked: bool, name: &[u8]) -> bool
-    requires { ⌜ (n ≤ 32) × (Places (now s) n (now places) × (marked ≡ false → n ≤ groupNamed (now s) n (now name))) ⌝ }
+// Whether one of the n groups has the name. Where it was not met none has, and nothing is compared.
+fn is_taken(s: &[u8], n: usize, places: &[usize; 32], met: bool, name: &[u8]) -> bool
+    requires { ⌜ (n ≤ 32) × (Places (now s) n (now places) × (met ≡ false → n ≤ groupNamed (now s) n (now name))) ⌝ }
     ensures { λ r. ⌜ r ≡ ltb (groupNamed (now (s .entry)) n (now (name .entry))) n ⌝ }
 {
-    if !marked {
+    if !met {
         return false;
     }
     group_named(s, n, places, name) < n
 }
 
-// Whether one of the n groups before has a name of the group at `at`, whose text has so many bytes. Where none has, the names are marked.
+// Whether one of the n groups before has a name of the group at `at`, whose text has so many bytes. Where none has, its names are met.
 pub fn is_named_before(
     s: &[u8],
     n: usize,
     places: &[usize; 32],
-    marks: &mut [bool; 2048],
+    table: &mut [u8; 2080],
     at: usize,
     text: usize,
 ) -> bool
-    requires { ⌜ (n ≤ 32) × (Places (now s) n (now places) × (Marks (now s) n (now marks) × ((text ≡ word (now s) (at + 12)) × (at + 16 + text ≤ length (now s))))) ⌝ }
-    ensures { λ r. ⌜ NamedBefore (now (s .entry)) n at r (now (marks .exit)) ⌝ }
+    requires { ⌜ (n ≤ 32) × (Places (now s) n (now places) × (Marks (now s) n (now table) × ((text ≡ word (now s) (at + 12)) × (at + 16 + text ≤ length (now s))))) ⌝ }
+    ensures { λ r. ⌜ NamedBefore (now (s .entry)) n at r (now (table .exit)) ⌝ }
 {
     let start = at + 16;
     let end = start + text;
@@ -56,11 +58,10 @@ pub fn is_named_before(
     while i <= t.len() {
         let e = names::name_end(t, i);
         let name = &t[i..e];
-        let mark = names::mark_of(name);
-        if is_taken(s, n, places, marks[mark], name) {
+        let met = table::meet(table, names::mark_of(name));
+        if is_taken(s, n, places, met, name) {
             return true;
         }
-        marks[mark] = true;
         i = e + 1;
     }
     false

@@ -133,15 +133,15 @@ pub fn has_name(t: &[u8], name: &[u8]) -> bool
     false
 }
 
-// The mark of a name. The remainder is by a power of two: a mask.
+// The mark of a name. Remainder and quotient are by powers of two: a mask and a shift.
 pub fn mark_of(name: &[u8]) -> usize
-    ensures { λ r. ⌜ (r ≡ mark (now (name .entry))) × (r < 2048) ⌝ }
+    ensures { λ r. ⌜ (r ≡ mark (now (name .entry))) × (r < 524288) ⌝ }
 {
     let mut m: usize = 0;
     let mut k: usize = 0;
     while k < name.len() {
-        m = (m * 31 + wide(name[k])) % 2048;
+        m = (m + wide(name[k])) * 2654435761 % 4294967296;
         k += 1;
     }
-    m
+    m / 8192
 }

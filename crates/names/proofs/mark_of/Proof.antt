@@ -1,5 +1,5 @@
--- The mark of the whole is what the bytes from k on make of m; m stays below 2048.
-use Prim.Native.Nat.{_-_, _≤_, _<_}
+-- The mark of the whole is what the bytes from k on make of m; m stays below 2^32.
+use Prim.Native.Nat.{_-_, _/_, _≤_, _<_}
 use native.Mathlib.Omega.{arith}
 use mathlib.Core.Path.{_≡_, sym, _∙_}
 use lib.ListN.{length, drop}
@@ -10,16 +10,13 @@ use Rattle.names.proofs.mark_of.Statement.{statement}
 use Rattle.names.proofs.mark_of.Tie as tie
 
 abbrev Inv-loop : tie.InvT-loop
-Inv-loop name m₀ k₀ m k = (k ≤ length name) × ((m < 2048) × (mark name ≡ markFrom m (drop k name)))
+Inv-loop name m₀ k₀ m k = (k ≤ length name) × ((m < 4294967296) × (mark name ≡ markFrom m (drop k name) / 8192))
 
 abbrev μ-loop : tie.MeasureT-loop
 μ-loop name m₀ k₀ m k = length name - k
 
 loop-holds : tie.Need-loop-holds Inv-loop μ-loop
 loop-holds c = (search needs, (search needs, mark-start _))
-
-mul-m : tie.Need-mul-m Inv-loop μ-loop
-mul-m c = search needs
 
 shared-slice-read-wide : tie.Need-shared-slice-read-wide Inv-loop μ-loop
 shared-slice-read-wide c = search needs
@@ -29,6 +26,9 @@ wide-requires c κs = search needs
 
 add-m : tie.Need-add-m Inv-loop μ-loop
 add-m c = search needs
+
+mul-m : tie.Need-mul-m Inv-loop μ-loop
+mul-m c = search needs
 
 add-k : tie.Need-add-k Inv-loop μ-loop
 add-k c = search needs
@@ -46,7 +46,7 @@ returns : tie.Need-returns Inv-loop μ-loop
 returns c =
     let l = c .before .loop in
     let a = c .before .before .before .args in
-    (sym (l .inv .1 .1 ∙ mark-end (a .name .now) (l .m) (l .k) (omega arith)), l .inv .1 .0)
+    (sym (mark-end (a .name .now) (l .m) (l .k) (l .inv .1 .1) (omega arith)), omega arith)
 
 pub mark-of-spec : {M : Type 1} → statement M
 mark-of-spec =
@@ -55,10 +55,10 @@ mark-of-spec =
     Inv-loop
     μ-loop
     loop-holds
-    mul-m
     shared-slice-read-wide
     wide-requires
     add-m
+    mul-m
     add-k
     loop-less
     loop-again

@@ -1,7 +1,6 @@
 -- What is still to be read is the run from group number n on; the tables hold what is known of the groups so far. n goes up, to 32 at most.
-use Prim.Native.Nat.{_-_, _≤_}
+use Prim.Native.Nat.{ℕ, _-_, _≤_}
 use mathlib.Core.Path.{_≡_, refl, sym, _∙_}
-use mathlib.Core.Bool.{false}
 use native.Mathlib.Omega.{arith}
 use lib.ListN.{length, length-replicate}
 use Rattle.layout.specs.Scan.{run}
@@ -17,18 +16,18 @@ use Rattle.body.proofs.survey.read_groups.Statement.{statement}
 use Rattle.body.proofs.survey.read_groups.Tie as tie
 
 abbrev Inv-loop : tie.InvT-loop
-Inv-loop s places₀ records₀ seconds₀ marks₀ n₀ at₀ places records seconds marks n at =
-    (n ≤ 32) × ((at ≡ groupPlace s n) × ((at ≤ length s) × (Places s n places × (Insides s n records seconds × (Marks s n marks × (bodyRun s ≡ run (groupTurn s) n 33))))))
+Inv-loop s places₀ records₀ seconds₀ table₀ n₀ at₀ places records seconds table n at =
+    (n ≤ 32) × ((at ≡ groupPlace s n) × ((at ≤ length s) × (Places s n places × (Insides s n records seconds × (Marks s n table × (bodyRun s ≡ run (groupTurn s) n 33))))))
 
 abbrev μ-loop : tie.MeasureT-loop
-μ-loop s places₀ records₀ seconds₀ marks₀ n₀ at₀ places records seconds marks n at = 33 - n
+μ-loop s places₀ records₀ seconds₀ table₀ n₀ at₀ places records seconds table n at = 33 - n
 
 returns : tie.Need-returns Inv-loop μ-loop
 returns c = record { run = sym (body-over _ (omega arith)); known = λ n e. not-ended _ _ n e }
 
 loop-holds : tie.Need-loop-holds Inv-loop μ-loop
 unfolding groupPlace
-loop-holds c = (omega arith, (refl, (omega arith, (places-start _ _ refl, (insides-start _ _ _ refl refl, (marks-start _ _ (length-replicate 2048 false), body-within _ (omega arith)))))))
+loop-holds c = (omega arith, (refl, (omega arith, (places-start _ _ refl, (insides-start _ _ _ refl refl, (marks-start _ _ (length-replicate {A = ℕ} 2080 0), body-within _ (omega arith)))))))
 
 group-turn-requires : tie.Need-group-turn-requires Inv-loop μ-loop
 group-turn-requires c κs = let l = c .before .before .loop in (l .inv .1 .0, (l .inv .1 .1 .0, (l .inv .0, (l .inv .1 .1 .1 .0, l .inv .1 .1 .1 .1 .1 .0))))
@@ -160,7 +159,7 @@ loop-again c =
             (
               insides-next _ _ _ (more .0) (l .inv .1 .0) _ _ _ _ (l .inv .1 .1 .1 .1 .0) told,
               (
-                g .group-turn .ensures .marked (e .enum-told2 .given .1),
+                g .group-turn .ensures .noted (e .enum-told2 .given .1),
                 l .inv .1 .1 .1 .1 .1 .1 ∙ run-more _ _ _ (omega arith) (sym (g .group-turn .ensures .turn) ∙ e .enum-told2 .given .1),
               ),
             ),
