@@ -1,17 +1,17 @@
 -- Strict reading: what is sound depends on its own bytes, what is accepted is covered, and a refusal points into what was lent.
-use Prim.Native.Nat.{ℕ, _≤_, _<_}
+use Prim.Native.Nat.{ℕ, _+_, _≤_, _<_}
 use mathlib.Core.Path.{_≡_}
 use mathlib.Core.List.{List, _++_}
 use lib.ListN.{length, take}
 use Rattle.layout.specs.Group.{groupSize, groupAt}
 use Rattle.layout.specs.Body.{groupPlace, bodyRun}
-use Rattle.layout.specs.Answers.{refused}
+use Rattle.layout.specs.Answers.{refused, granted, Span}
 use Rattle.layout.specs.Style.{casmFound}
 use Rattle.layout.specs.declared.turn.Run.the-variants.{Stopped, Ended}
 use Rattle.layout.specs.declared.turn.Judged.the-variants.{Sound}
 use Rattle.layout.proofs.Bodies.{Accepted, body-accepted, body-place}
 use Rattle.salvage.proofs.Verdicts.{sound-own}
-use Rattle.style.proofs.PlaceLaws.{casm-place}
+use Rattle.style.proofs.PlaceLaws.{casm-place, casm-within}
 
 -- a sound group is the same group by its own bytes, whatever follows them
 pub sound-by-its-own-bytes : (p x : List ℕ) (text ctabs cntts : ℕ) → groupAt p ≡ Sound text ctabs cntts → groupAt (take (groupSize p) p ++ x) ≡ Sound text ctabs cntts
@@ -32,3 +32,7 @@ body-refused-within s number place e = body-place s number place e
 -- a refused file is refused at one of its bytes, or at its length
 pub file-refused-within : (s : List ℕ) (number place : ℕ) → casmFound s ≡ refused number place → place ≤ length s
 file-refused-within s number place e = casm-place s number place e
+
+-- a CASM section that is found ends within the file, its header of eight bytes and its body
+pub found-within : (s : List ℕ) (x : Span) → casmFound s ≡ granted x → x .start + 8 + x .size ≤ length s
+found-within s x e = casm-within s x e

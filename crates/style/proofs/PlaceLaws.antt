@@ -83,3 +83,36 @@ casm-place s number place q = go (ltb 1048576 (length s)) (noStyle s) refl q
     go true b e w = let z : 0 ≡ place = cc in omega arith
     go false true e w = let z : 0 ≡ place = cc in omega arith
     go false false e w = after-place s e number place (sectionsRun s) refl w
+
+-- ---- where it is found
+
+module _ (s : List ℕ) (x : Span) where
+  among-within : (n : ℕ) → Fit s n → casmAmong s n ≡ granted x → x .start + 8 + x .size ≤ length s
+  unfolding casmAmong
+  among-within n fit q = go (leb n (sectionTagged s n CASM)) refl q
+    where
+      at : ℕ
+      at = sectionPlace s (sectionTagged s n CASM)
+
+      go : (a : Bool) → leb n (sectionTagged s n CASM) ≡ a
+          → cond a (refused 5 (length s)) (cond (ltb 32768 (word s (at + 4))) (refused 3 at) (granted (sectionAt s at))) ≡ granted x → x .start + 8 + x .size ≤ length s
+      go true e w = absurd (let z : _≡_ {A = ℕ} 0 1 = cc in omega arith)
+      go false e w = over (ltb 32768 (word s (at + 4))) w
+        where
+          over : (b : Bool) → cond b (refused 3 at) (granted (sectionAt s at)) ≡ granted x → x .start + 8 + x .size ≤ length s
+          over true v = absurd (let z : _≡_ {A = ℕ} 0 1 = cc in omega arith)
+          over false v = let z : sectionAt s at ≡ x = cc in rw (← z) (fit .fits (sectionTagged s n CASM) (leb-false n (sectionTagged s n CASM) e))
+
+  after-within : noStyle s ≡ false → (r : Run) → sectionsRun s ≡ r → afterRun r (casmAmong s) ≡ granted x → x .start + 8 + x .size ≤ length s
+  unfolding afterRun
+  after-within style (Stopped a b) e q = absurd (let z : _≡_ {A = ℕ} 0 1 = cc in omega arith)
+  after-within style (Ended n) e q = among-within n (sections-fit s style n e) q
+
+  pub casm-within : casmFound s ≡ granted x → x .start + 8 + x .size ≤ length s
+  unfolding casmFound
+  casm-within q = go (ltb 1048576 (length s)) (noStyle s) refl q
+    where
+      go : (a b : Bool) → noStyle s ≡ b → cond a (refused 3 0) (cond b (refused 1 0) (afterRun (sectionsRun s) (casmAmong s))) ≡ granted x → x .start + 8 + x .size ≤ length s
+      go true b e w = absurd (let z : _≡_ {A = ℕ} 0 1 = cc in omega arith)
+      go false true e w = absurd (let z : _≡_ {A = ℕ} 0 1 = cc in omega arith)
+      go false false e w = after-within e (sectionsRun s) refl w
