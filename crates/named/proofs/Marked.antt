@@ -51,7 +51,7 @@ module _ (s : List ℕ) (n : ℕ) (table : List ℕ) (known : Marks s n table) w
           let q : first (hasPart s name) 0 n ≡ n = omega (arith, first-within (hasPart s name) n, named-start s name n) in
           new name (hasPart s name n) refl (named-start s name (n + 1) ∙ first-grown (hasPart s name) n q) l
 
-pub marks-start : (s : List ℕ) (table : List ℕ) → length table ≡ 2080 → Marks s 0 table
+pub marks-start : (s : List ℕ) (table : List ℕ) → length table ≡ 256 → Marks s 0 table
 marks-start s table e = record { size = e; each = λ name l. absurd (omega arith) }
 
 -- ---- the names of a text, up to the one that starts at i

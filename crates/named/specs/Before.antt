@@ -20,7 +20,7 @@ pub record Places (s : List ℕ) (n : ℕ) (places : List ℕ) : Type 0 where
 
 -- a table of the names met, in which every name of the first n groups was
 pub record Marks (s : List ℕ) (n : ℕ) (table : List ℕ) : Type 0 where
-  pub size : length table ≡ 2080
+  pub size : length table ≡ 256
   pub each : (name : List ℕ) → groupNamed s n name < n → met table (mark name) ≡ true
 
 -- .. and every name of a text was

@@ -44,7 +44,7 @@ pub fn is_named_before(
     s: &[u8],
     n: usize,
     places: &[usize; 32],
-    table: &mut [u8; 2080],
+    table: &mut [u64; 256],
     at: usize,
     text: usize,
 ) -> bool

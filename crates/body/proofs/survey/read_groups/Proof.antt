@@ -27,7 +27,7 @@ returns c = record { run = sym (body-over _ (omega arith)); known = λ n e. not-
 
 loop-holds : tie.Need-loop-holds Inv-loop μ-loop
 unfolding groupPlace
-loop-holds c = (omega arith, (refl, (omega arith, (places-start _ _ refl, (insides-start _ _ _ refl refl, (marks-start _ _ (length-replicate {A = ℕ} 2080 0), body-within _ (omega arith)))))))
+loop-holds c = (omega arith, (refl, (omega arith, (places-start _ _ refl, (insides-start _ _ _ refl refl, (marks-start _ _ (length-replicate {A = ℕ} 256 0), body-within _ (omega arith)))))))
 
 group-turn-requires : tie.Need-group-turn-requires Inv-loop μ-loop
 group-turn-requires c κs = let l = c .before .before .loop in (l .inv .1 .0, (l .inv .1 .1 .0, (l .inv .0, (l .inv .1 .1 .1 .0, l .inv .1 .1 .1 .1 .1 .0))))
