@@ -42,7 +42,7 @@ static uint8_t few[1048576], half_few[1048576], many[1048576], half_many[1048576
 static size_t list[2][24579];
 static uint8_t table[16 * 28], buffer[2][2048];
 static casm_row rows[4096];
-static size_t sections = 8000;
+static size_t sections = 2000;
 
 static size_t style(uint8_t *file, size_t sections, size_t filler)
 {
