@@ -24,11 +24,11 @@ static void record(uint8_t *b, uint8_t channel)
     for (int k = 1; k < 9; k++) b[k] = (uint8_t)('A' + any(26));
 }
 
-/* A sound group of so many channels, each with a Cntt; its parts are named after its number. Its length is returned. */
+/* A sound group of so many channels, each with a Cntt; its parts are named after its number, 15 bytes each, so that 16 of them fill a text. Its length is returned. */
 static size_t group(uint8_t *at, unsigned number, unsigned channels, unsigned names)
 {
     uint8_t *end = at + 16;
-    for (unsigned i = 0; i < names; i++) end += sprintf((char *)end, "%sPart %c%c %u", i ? "," : "", 'A' + number / 10, '0' + number % 10, i);
+    for (unsigned i = 0; i < names; i++) end += sprintf((char *)end, "%sPart %c%c n %05u", i ? "," : "", 'A' + number / 10, '0' + number % 10, i);
     put(at + 8, "Sdec", (size_t)(end - at - 16));
     for (unsigned i = 0; i < channels; i++) end = put(end, "Ctab", 27), record(end, (uint8_t)i), end[26] = 0, end += 27;
     for (unsigned i = 0; i < channels; i++) end = put(end, "Cntt", 2), end[0] = (uint8_t)i, end[1] = 0x81, end += 2;
@@ -59,7 +59,7 @@ static size_t style(uint8_t *file, size_t sections, size_t filler)
 
 static void prepare(void)
 {
-    for (unsigned k = 0; k < 32; k++) sound_half = k == 16 ? sound_size : sound_half, sound_size += group(sound + sound_size, k, 16, 4);
+    for (unsigned k = 0; k < 32; k++) sound_half = k == 16 ? sound_size : sound_half, sound_size += group(sound + sound_size, k, 16, 16);
     for (unsigned k = 0; k < 32; k++) small_half = k == 16 ? small_size : small_half, small_size += group(small + small_size, k, 1, 10);
     memcpy(damaged, sound, sizeof damaged);
     for (size_t at = 0, k = 0, size; at < sound_size; at += size, k++) {
@@ -98,7 +98,7 @@ static uint64_t body_plain(void) BODY(plain_body)
 #define SALVAGE(call, l) { casm_count r = call(in, in_size, l, numbers); return mix(mix(mix(r.number, r.place), r.count), checking ? lent(l, sizeof l) : 0); }
 static uint64_t salvage_proved(void) SALVAGE(casm_salvage, list[0])
 static uint64_t salvage_plain(void) SALVAGE(plain_salvage, list[1])
-#define PLAYS(call) { casm_players r = call(in, in_size, (const uint8_t *)"Part B5 3", 9, 7, 20); return mix(mix(mix(r.number, r.place), r.count), lent(r.channels, 16)); }
+#define PLAYS(call) { casm_players r = call(in, in_size, (const uint8_t *)"Part B5 n 00003", 15, 7, 20); return mix(mix(mix(r.number, r.place), r.count), lent(r.channels, 16)); }
 static uint64_t plays_proved(void) PLAYS(casm_plays)
 static uint64_t plays_plain(void) PLAYS(plain_plays)
 #define PLACE(call) { uint64_t h = 0; for (unsigned i = 0; i < 4096; i++) { casm_note r = call(rows[i], (uint8_t)(i % 12), (uint8_t)(i % 128)); h = mix(h, mix(mix(r.number, r.place), (uint64_t)r.silent << 8 | r.note)); } return h; }
@@ -227,7 +227,7 @@ static void stack(const char *name, uint64_t (*call)(void))
 }
 
 /* The calls that are not timed, for their stack. */
-static uint64_t part_proved(void) { return casm_part(in, in_size, (const uint8_t *)"Part B5 3", 9).group; }
+static uint64_t part_proved(void) { return casm_part(in, in_size, (const uint8_t *)"Part B5 n 00003", 15).group; }
 static uint64_t group_proved(void) { return casm_group(in, in_size, 15).number; }
 static uint64_t voice_proved(void) { return casm_voice(in, in_size, 15, 7).number; }
 static uint64_t note_proved(void) { return casm_place(rows[7], 7, 60).note; }
@@ -237,10 +237,10 @@ static uint64_t records_proved(void) { return casm_records(in, in_size, 15, tabl
 static void ratios(void)
 {
     printf("proved time over plain C time:\n");
-    on(few, style(few, 6, 1000000)), job("find, 1 MB, few sections", find_proved, find_plain);
+    on(few, style(few, 6, 1048472)), job("find, 1 MiB, few sections", find_proved, find_plain);
     on(many, style(many, sections, 0)), job("find, many sections", find_proved, find_plain);
-    on(sound, sound_size), job("strict body, 32 groups of 16 channels", body_proved, body_plain);
-    on(small, small_size), job("strict body, 32 groups, ten names each", body_proved, body_plain);
+    on(sound, sound_size), job("strict body, 31 KiB, 32 groups", body_proved, body_plain);
+    on(small, small_size), job("strict body, 32 groups of 1 channel", body_proved, body_plain);
     on(sound, sound_size), job("salvage, sound", salvage_proved, salvage_plain);
     on(damaged, sound_size), job("salvage, every second group damaged", salvage_proved, salvage_plain);
     on(csegs, sizeof csegs), job("salvage, 8,192 times CSEG", salvage_proved, salvage_plain);
@@ -255,10 +255,10 @@ static void ratios(void)
 static void growth(void)
 {
     printf("the proved call on twice the input, over the half:\n");
-    doubled("find, 0.5 to 1 MB, few sections", find_proved, half_few, style(half_few, 6, 500000), 16, few, style(few, 6, 1000000));
+    doubled("find, 0.5 to 1 MiB, few sections", find_proved, half_few, style(half_few, 6, 524184), 16, few, style(few, 6, 1048472));
     doubled("find, sections doubled", find_proved, half_many, style(half_many, sections / 2, 0), 16, many, style(many, sections, 0));
-    doubled("strict body, 16 to 32 groups of 16 channels", body_proved, sound, sound_half, 16, sound, sound_size);
-    doubled("strict body, 16 to 32 groups, ten names each", body_proved, small, small_half, 16, small, small_size);
+    doubled("strict body, 16 to 32 groups, 31 KiB", body_proved, sound, sound_half, 16, sound, sound_size);
+    doubled("strict body, 16 to 32 groups of 1 channel", body_proved, small, small_half, 16, small, small_size);
     doubled("salvage, sound", salvage_proved, sound, sound_half, 16, sound, sound_size);
     doubled("salvage, every second group damaged", salvage_proved, damaged, sound_half, 16, damaged, sound_size);
     doubled("salvage, 4,096 to 8,192 times CSEG", salvage_proved, csegs, sizeof csegs / 2, 16, csegs, sizeof csegs);
@@ -271,7 +271,7 @@ static void growth(void)
 static void stacks(void)
 {
     printf("bytes of stack that a call writes below its caller, this program's wrapper included:\n");
-    on(few, style(few, 6, 1000000)), stack("casm_find", find_proved);
+    on(few, style(few, 6, 1048472)), stack("casm_find", find_proved);
     on(sound, sound_size), stack("casm_body", body_proved);
     stack("casm_salvage", salvage_proved);
     stack("casm_part", part_proved);
@@ -289,7 +289,7 @@ int main(int count, char **words)
 {
     if (count > 1) sections = (size_t)atol(words[1]);
     prepare();
-    style(few, 6, 1000000);
+    style(few, 6, 1048472);
     alike_damaged("find", few, 4096, find_proved, find_plain, 2000);
     alike_damaged("body", sound, sound_size, body_proved, body_plain, 4000);
     alike_damaged("body, short texts", small, small_size, body_proved, body_plain, 4000);

@@ -131,16 +131,17 @@ static _Bool has_name(const uint8_t *t, size_t n, const uint8_t *name, size_t si
     return 0;
 }
 
-/* Whether one of the k groups before has a name of this text. A name whose mark is not set is new; most are, so that few names are compared. */
-static _Bool named_before(const uint8_t *s, const struct group *groups, const size_t *places, size_t k, const uint8_t *t, size_t n, uint8_t *marks)
+/* Whether one of the k groups before has a name of this text. A name sets five bits of one of 256 words; where they are not all set it is new, so that few names are compared. */
+static _Bool named_before(const uint8_t *s, const struct group *groups, const size_t *places, size_t k, const uint8_t *t, size_t n, uint64_t *met)
 {
-    for (size_t i = 0, from = 0, mark = 0; i <= n; i++) {
-        if (i < n && t[i] != ',') { mark = mark * 241 + t[i]; continue; }
-        mark %= 2048;
-        if (marks[mark])
+    uint64_t mark = 0;
+    for (size_t i = 0, from = 0; i <= n; i++) {
+        if (i < n && t[i] != ',') { mark = (mark + t[i]) * 0x9E3779B97F4A7C15u; continue; }
+        uint64_t bits = 1ul << (mark >> 50 & 63) | 1ul << (mark >> 44 & 63) | 1ul << (mark >> 38 & 63) | 1ul << (mark >> 32 & 63) | 1ul << (mark >> 26 & 63), *word = &met[mark >> 56];
+        if ((*word & bits) == bits)
             for (size_t j = 0; j < k; j++)
                 if (has_name(s + places[j] + 16, groups[j].length, t + from, i - from)) return 1;
-        marks[mark] = 1;
+        *word |= bits;
         from = i + 1, mark = 0;
     }
     return 0;
@@ -148,7 +149,7 @@ static _Bool named_before(const uint8_t *s, const struct group *groups, const si
 
 static struct fault read_groups(const uint8_t *s, size_t size, struct group *groups, size_t *places, size_t *count)
 {
-    uint8_t marks[2048] = {0};
+    uint64_t met[256] = {0};
     size_t k = 0;
     if (size > BODY_LIMIT) return FAULT(3, 0);
     for (size_t at = 0; at != size; k++) {
@@ -160,7 +161,7 @@ static struct fault read_groups(const uint8_t *s, size_t size, struct group *gro
         }
         struct fault f = read_group(s + at, size - at, &groups[k]);
         if (f.number) return f.place += at, f;
-        if (named_before(s, groups, places, k, s + at + 16, groups[k].length, marks)) return FAULT(13, at);
+        if (named_before(s, groups, places, k, s + at + 16, groups[k].length, met)) return FAULT(13, at);
         places[k] = at;
         at += groups[k].size;
     }
