@@ -1,5 +1,5 @@
 -- The marked examples hold: each row computes to its answer.
-use mathlib.Core.Path.{_≡_, refl}
+use mathlib.Core.Path.{refl}
 use mathlib.Core.List.{flatMap}
 use Rattle.layout.specs.Lists.{same, has, distinct, every, any}
 use Rattle.layout.specs.Scan.{firstOf, first, runOf, run}

@@ -1,6 +1,6 @@
 -- Demand 3: each statement by one law. Example 9 by the same laws, its hypotheses by tests that compute.
-use mathlib.Core.Path.{_≡_, refl}
-use mathlib.Core.List.{List, [], _∷_, flatMap, flatten}
+use mathlib.Core.Path.{refl}
+use mathlib.Core.List.{[], _∷_, flatMap, flatten}
 use lib.ListN.{drop, set}
 use Rattle.layout.specs.Lists.{same, has, distinct, every}
 use Rattle.layout.specs.Scan.{firstOf, first, runOf, run}

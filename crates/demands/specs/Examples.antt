@@ -1,6 +1,6 @@
 -- The fifteen marked examples of document 01: one table, and one theorem that every row of it holds of the definitions, by computation.
 use Prim.Native.Nat.{ℕ}
-use mathlib.Core.Path.{_≡_, refl}
+use mathlib.Core.Path.{_≡_}
 use mathlib.Core.Bool.{Bool, true, false}
 use mathlib.Core.List.{List, [], _∷_, _++_}
 use lib.ListN.{take, drop, set, replicate}

@@ -1,9 +1,8 @@
 -- An edit: one law for each way out.
 use Prim.Native.Nat.{ℕ, _+_, _-_, _*_, _≤_, _<_}
 use mathlib.Core.Path.{_≡_, refl, sym, _∙_, ap}
-use mathlib.Core.Bool.{cond, not}
+use mathlib.Core.Bool.{cond}
 use mathlib.Core.List.{List, _++_}
-use native.Mathlib.Omega.{arith}
 use lib.Dec.{leb}
 use lib.ListN.{length, drop}
 use borrow.Author.Tests.{eq-eqb, ne-eqb, lt-ltb, le-ltb, le-leb, lt-leb}
@@ -11,7 +10,7 @@ use borrow.Rule.Slice.PartMut.{midOf, putMid}
 use Rattle.layout.specs.declared.answer.Answered.{Answered}
 use Rattle.layout.specs.declared.answer.Standing.{Standing}
 use Rattle.layout.specs.declared.record.Record.{Record}
-use Rattle.layout.specs.Answers.{Answer, refused, granted, numberOf, placeOf, valueOr, answered}
+use Rattle.layout.specs.Answers.{refused, granted, numberOf, placeOf, valueOr, answered}
 use Rattle.layout.specs.Ranges.{firstEdition, ranges, firstOut}
 use Rattle.layout.specs.Records.{bytesOf, channelOf, fileBytes}
 use Rattle.layout.specs.Group.{ctabOf}

@@ -1,21 +1,18 @@
 -- What a search for a group says of every question that is asked after the body: its refusals, and where the group stands.
 use Prim.Native.Nat.{ℕ, _+_, _*_, _≤_, _<_}
 use native.Mathlib.Omega.{arith}
-use mathlib.Core.Path.{_≡_, refl, sym, ap, _∙_}
+use mathlib.Core.Path.{_≡_, refl}
 use mathlib.Core.Bool.{Bool, true, false, cond}
 use mathlib.Core.List.{List}
 use lib.Dec.{leb}
-use lib.ListN.{length, drop}
+use lib.ListN.{length}
 use borrow.Author.Tests.{lt-leb, leb-false}
-use Rattle.layout.specs.Bytes.{word}
-use Rattle.layout.specs.Group.{groupSize, groupAt}
-use Rattle.layout.specs.Answers.{Answer, refused, granted, afterRun}
+use Rattle.layout.specs.Answers.{Answer, refused, afterRun}
 use Rattle.layout.specs.Body.{groupPlace, bodyRun, standingAt, standing, ofGroup, groupNamed, ofPart}
 use Rattle.layout.specs.declared.turn.Run.{Run}
 use Rattle.layout.specs.declared.turn.Run.the-variants.{Stopped, Ended}
-use Rattle.layout.specs.declared.turn.Judged.the-variants.{Sound}
 use Rattle.layout.specs.declared.answer.Standing.{Standing}
-use Rattle.layout.proofs.Bodies.{Accepted, GroupMore, body-accepted, group-there}
+use Rattle.layout.proofs.Bodies.{body-accepted, group-there}
 use Rattle.find.specs.declared.Search.{Search}
 use Rattle.find.specs.declared.Search.the-variants.{Refused, Missing, Found}
 use Rattle.find.specs.Find.{among, numbered, groupLocated, partLocated}

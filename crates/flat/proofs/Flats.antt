@@ -1,19 +1,14 @@
 -- A flat table as the records that it lends.
 use Prim.Native.Nat.{ℕ, _+_, _-_, _*_, _≤_}
 use native.Mathlib.Omega.{arith}
-use mathlib.Core.Path.{_≡_, ap, subst, _∙_}
+use mathlib.Core.Path.{_≡_, ap, _∙_}
 use mathlib.Core.List.{List}
-use lib.ListN.{length, getD, take, drop}
-use lib.Seq.{take-at}
-use Rattle.layout.specs.Lists.{rows}
+use lib.ListN.{getD, take, drop}
 use Rattle.layout.specs.Records.{recordOf}
-use Rattle.layout.specs.Promises.{GroupWritten}
 use Rattle.layout.specs.declared.record.SecondTable.{SecondTable}
 use Rattle.layout.specs.declared.record.Record.{Record}
-use Rattle.layout.specs.declared.answer.Measured.{Measured}
-use Rattle.layout.proofs.Lists.{rows-length}
 use Rattle.cross.specs.Rows.{secondOf}
-use Rattle.flat.specs.Flat.{lentRows, recordIn, flatRecord, tableOf}
+use Rattle.flat.specs.Flat.{lentRows, recordIn, flatRecord}
 
 pub record-in-is : (p : List ℕ) (second : SecondTable) (r : Record) → second ≡ secondOf (getD p 26 0) (getD p 27 0) → r ≡ recordOf p second → r ≡ recordIn p
 unfolding recordIn

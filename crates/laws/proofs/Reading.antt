@@ -1,5 +1,5 @@
 -- Strict reading: what is sound depends on its own bytes, what is accepted is covered, and a refusal points into what was lent.
-use Prim.Native.Nat.{ℕ, _+_, _≤_, _<_}
+use Prim.Native.Nat.{ℕ, _+_, _≤_}
 use mathlib.Core.Path.{_≡_}
 use mathlib.Core.List.{List, _++_}
 use lib.ListN.{length, take}
@@ -9,7 +9,7 @@ use Rattle.layout.specs.Answers.{refused, granted, Span}
 use Rattle.layout.specs.Style.{casmFound}
 use Rattle.layout.specs.declared.turn.Run.the-variants.{Stopped, Ended}
 use Rattle.layout.specs.declared.turn.Judged.the-variants.{Sound}
-use Rattle.layout.proofs.Bodies.{Accepted, body-accepted, body-place}
+use Rattle.layout.proofs.Bodies.{body-accepted, body-place}
 use Rattle.salvage.proofs.Verdicts.{sound-own}
 use Rattle.style.proofs.PlaceLaws.{casm-place, casm-within}
 

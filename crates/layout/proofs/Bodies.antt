@@ -1,25 +1,21 @@
 -- A group that stands at a place of a body, and a turn of the body: one law for each way out.
-use Prim.Native.Nat.{ℕ, suc, _+_, _-_, _*_, _≤_, _<_}
+use Prim.Native.Nat.{ℕ, _+_, _-_, _*_, _≤_, _<_}
 use native.Mathlib.Omega.{arith}
 use native.Mathlib.Decide.{decLt}
 use native.Mathlib.Numerals.{add-one}
-use mathlib.Core.Path.{_≡_, refl, sym, ap, _∙_}
+use mathlib.Core.Path.{_≡_, refl, sym, _∙_}
 use mathlib.Core.Bool.{Bool, true, false, cond, not}
 use mathlib.Core.List.{List}
 use lib.Dec.{ltb, leb, eqb}
 use lib.ListN.{length, take, drop, length-drop}
 use lib.Seq.{drop-drop}
-use borrow.Author.Tests.{eq-eqb, ne-eqb, eqb-true, lt-ltb, le-ltb, le-leb, lt-leb, leb-false, ltb-false}
-use Rattle.layout.specs.Scan.{first, Turn, Refused, More, Done, Run, Stopped, Ended, run}
-use Rattle.layout.specs.Bytes.{word, four, tagAt, tagged, CSEG, Sdec}
-use Rattle.layout.specs.Sdec.{soundText}
-use Rattle.layout.specs.Group.{headFault, Judged, Unsound, Sound, ctabsOf, cnttsOf, afterCtabs, afterCntts, cnttAt, cnttTurn, contents, payload, groupSize, behindHeader, groupAt}
-use Rattle.layout.specs.Body.{groupPlace, textAt, sharing, afterContents, groupTurnAt, groupTurn, bodyRun}
+use borrow.Author.Tests.{eq-eqb, ne-eqb, eqb-true, lt-ltb, le-ltb, le-leb, lt-leb, leb-false}
+use Rattle.layout.specs.Scan.{Refused, More, Done, Stopped, Ended, run}
+use Rattle.layout.specs.Bytes.{word, four, tagAt, tagged, CSEG}
+use Rattle.layout.specs.Group.{headFault, Judged, Unsound, Sound, contents, groupSize, groupAt}
+use Rattle.layout.specs.Body.{groupPlace, sharing, afterContents, groupTurnAt, groupTurn, bodyRun}
 use Rattle.layout.proofs.Scans.{run-stopped, run-ended, not-ended}
 use Rattle.layout.proofs.Numbers.{word-drop}
-use Rattle.layout.proofs.Heads.{head-sound}
-use Rattle.layout.proofs.Ctabs.{ctabs-fit}
-use Rattle.layout.proofs.Cntts.{cntts-fit}
 use Rattle.layout.proofs.Groups.{cseg-tag, group-empty, group-unsound, group-sound, group-place, group-sound-is}
 
 -- ---- a part of the bytes that begins at a place

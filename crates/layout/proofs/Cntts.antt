@@ -1,15 +1,15 @@
 -- A turn of the Cntts: one law for each way out, and what a turn that goes on says.
 use Prim.Native.Nat.{ℕ, _+_, _*_, _-_, _≤_, _<_}
 use mathlib.Core.Path.{_≡_, refl, sym, _∙_}
-use mathlib.Core.Bool.{Bool, true, false, cond, not, _&&_, _||_, true≢false}
+use mathlib.Core.Bool.{Bool, true, false, cond, not}
 use mathlib.Core.List.{List}
 use native.Mathlib.Omega.{arith}
-use lib.Dec.{ltb, leb, eqb}
+use lib.Dec.{eqb}
 use lib.ListN.{length, getD}
 use borrow.Author.Tests.{eq-eqb, ne-eqb, eqb-true}
-use Rattle.layout.specs.Scan.{Turn, Refused, More, Done, Run, Stopped, Ended}
+use Rattle.layout.specs.Scan.{Refused, More, Done, Stopped, Ended}
 use Rattle.layout.specs.Bytes.{word, four, Cntt}
-use Rattle.layout.specs.Ranges.{firstEdition, ranges, outOf, cnttValue}
+use Rattle.layout.specs.Ranges.{ranges, outOf, cnttValue}
 use Rattle.layout.specs.Group.{headFault, cnttFault, cnttAt, cnttTurn, cnttsOf}
 use Rattle.layout.proofs.Scans.{run-stopped, run-ended}
 use Rattle.layout.proofs.Outs.{lows, highs, out-above, out-none, in-range}

@@ -1,13 +1,13 @@
 -- A turn of the Ctabs: one law for each way out, and what a turn that goes on says.
 use Prim.Native.Nat.{ℕ, _+_, _*_, _≤_, _<_}
 use mathlib.Core.Path.{_≡_, refl, sym, _∙_}
-use mathlib.Core.Bool.{Bool, true, false, cond, not, _&&_, _||_}
+use mathlib.Core.Bool.{Bool, true, false, cond, not}
 use mathlib.Core.List.{List}
 use native.Mathlib.Omega.{arith}
-use lib.Dec.{ltb, leb, eqb}
+use lib.Dec.{ltb, eqb}
 use lib.ListN.{length, getD}
 use borrow.Author.Tests.{eq-eqb, ne-eqb, lt-ltb, le-ltb, le-leb, lt-leb, eqb-true, ltb-true, ltb-false}
-use Rattle.layout.specs.Scan.{Turn, Refused, More, Done, Run, Stopped, Ended}
+use Rattle.layout.specs.Scan.{Refused, More, Done, Stopped, Ended}
 use Rattle.layout.specs.Bytes.{word, four, tagged, Ctab, Cntt}
 use Rattle.layout.specs.Ranges.{firstEdition, ranges, outOf, firstOut}
 use Rattle.layout.specs.Group.{headFault, ctabsOver, ctabOf, ctabAt, ctabTurn, ctabsOf}

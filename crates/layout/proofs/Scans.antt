@@ -5,7 +5,7 @@ use native.Mathlib.Decide.{decLt}
 use native.Mathlib.Numerals.{add-one}
 use native.Mathlib.Omega.{arith}
 use mathlib.Core.Bool.{Bool, true, false, cond, false≢true}
-use Rattle.layout.specs.Scan.{Turn, Refused, More, Done, Run, Stopped, Ended, firstOf, first, runOf, run}
+use Rattle.layout.specs.Scan.{Turn, Refused, More, Done, Stopped, Ended, firstOf, first, runOf, run}
 
 module _ (p : ℕ → Bool) (k e : ℕ) where
   pub first-end : e ≡ k → first p k e ≡ k

@@ -1,11 +1,11 @@
 -- The strict body, and its groups by number and by part name (document 01, "The CASM body" and "Numbers of refusal": strict body, after the body).
 use Prim.Native.Nat.{ℕ, zero, suc, _+_}
-use mathlib.Core.Bool.{Bool, true, false, cond, not}
+use mathlib.Core.Bool.{cond, not}
 use mathlib.Core.List.{List, [], _∷_}
 use lib.Dec.{ltb, leb, eqb}
 use lib.ListN.{length, take, drop}
 use Rattle.layout.specs.Lists.{has}
-use Rattle.layout.specs.Scan.{first, Turn, Refused, More, Done, Run, Stopped, Ended, run}
+use Rattle.layout.specs.Scan.{first, Turn, Refused, More, Done, Run, Stopped, run}
 use Rattle.layout.specs.Bytes.{word, CSEG}
 use Rattle.layout.specs.Refusals.{accepted, overLimit, tooManyGroups, nameAgain, noRoom, notThere, badNumber}
 use Rattle.layout.specs.Answers.{Answer, refused, granted, afterRun, numberOf, placeOf, valueOr, Standing, nowhere, Channelled}

@@ -1,6 +1,6 @@
 -- Editing one record inside a body (document 01, "Writing and editing" and "Numbers of refusal": after the body).
 use Prim.Native.Nat.{ℕ, _+_}
-use mathlib.Core.Bool.{Bool, true, false, cond, not}
+use mathlib.Core.Bool.{cond, not}
 use mathlib.Core.List.{List, _++_}
 use lib.Dec.{ltb, eqb}
 use lib.ListN.{length, take, drop}
@@ -8,7 +8,7 @@ use Rattle.layout.specs.Refusals.{outOfRange, badNumber}
 use Rattle.layout.specs.Answers.{Answer, refused, granted}
 use Rattle.layout.specs.Ranges.{Edition, firstEdition, firstOut}
 use Rattle.layout.specs.Records.{Record, bytesOf, channelOf, fileBytes}
-use Rattle.layout.specs.Body.{standing, ofGroup, ofChannel, Row}
+use Rattle.layout.specs.Body.{standing, ofGroup, ofChannel}
 
 -- the bytes b in place of those that stand at `at`
 unfoldable pub replaced : List ℕ → ℕ → List ℕ → List ℕ

@@ -3,7 +3,7 @@ use Prim.Native.Nat.{ℕ, _+_}
 use mathlib.Core.Path.{_≡_}
 use mathlib.Core.List.{List}
 use lib.ListN.{length, take, drop}
-use Rattle.layout.specs.Answers.{numberOf, valueOr, retold, lentAfter, answered, partOf, counted, countedAll, measured, named, grouped, spanned}
+use Rattle.layout.specs.Answers.{valueOr, retold, lentAfter, answered, partOf, counted, countedAll, measured, named, grouped, spanned}
 use Rattle.layout.specs.Answers.{Answered, Counted, Measured, Located, Spanned, Grouped, Named, Channelled, Played, Placed, Changed}
 use Rattle.layout.specs.Records.{Record, SecondTable, bytesOf, recordOf}
 use Rattle.layout.specs.Body.{bodyRead, groupFound, partFound, channelFound, channelled, textOf, recordsRead}

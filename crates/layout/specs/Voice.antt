@@ -1,11 +1,11 @@
 -- The voice name (document 01, "The CASM body": "the voice name is shown as ..").
 use Prim.Native.Nat.{ℕ, _+_}
-use mathlib.Core.Bool.{Bool, true, false, cond}
+use mathlib.Core.Bool.{cond}
 use mathlib.Core.List.{List, [], _∷_}
 use lib.Dec.{eqb}
 use lib.ListN.{length, take, drop}
 use Rattle.layout.specs.Answers.{Answer, granted, Span}
-use Rattle.layout.specs.Body.{standing, ofGroup, ofChannel, Row}
+use Rattle.layout.specs.Body.{standing, ofGroup, ofChannel}
 
 -- a byte before what is shown of the rest: 20H is left off where nothing follows it
 unfoldable pub before : ℕ → List ℕ → List ℕ

@@ -1,7 +1,7 @@
 -- The answers of strict reading, one law for each way out of a call.
 use Prim.Native.Nat.{ℕ, _+_, _*_, _-_, _≤_, _<_}
 use native.Mathlib.Omega.{arith}
-use mathlib.Core.Path.{_≡_, refl, sym, ap, _∙_}
+use mathlib.Core.Path.{_≡_, refl, sym, _∙_}
 use mathlib.Core.Bool.{cond}
 use mathlib.Core.List.{List, []}
 use lib.Dec.{leb}
@@ -10,11 +10,10 @@ use lib.Seq.{take-nil, take-all}
 use borrow.Author.Tests.{le-leb, lt-leb}
 use Rattle.layout.specs.Bytes.{word}
 use Rattle.layout.specs.Ranges.{firstEdition}
-use Rattle.layout.specs.Group.{ctabOf, groupAt}
-use Rattle.layout.specs.Answers.{Answer, refused, granted, numberOf, placeOf, valueOr, afterRun, partOf, counted, named, nowhere, grouped}
-use Rattle.layout.specs.Body.{groupPlace, textAt, bodyRun, bodyRead, standingAt, standing, ofGroup, groupFound, groupNamed, ofPart, partFound, Row, rowOf, rowIn, ofChannel, channelFound, channelled, textOf}
+use Rattle.layout.specs.Group.{ctabOf}
+use Rattle.layout.specs.Answers.{refused, granted, numberOf, placeOf, valueOr, afterRun, partOf, counted, named, nowhere, grouped}
+use Rattle.layout.specs.Body.{groupPlace, textAt, bodyRun, bodyRead, standingAt, standing, groupFound, partFound, rowOf, rowIn, ofChannel, channelFound, channelled, textOf}
 use Rattle.layout.specs.declared.turn.Run.the-variants.{Stopped, Ended}
-use Rattle.layout.specs.declared.turn.Judged.the-variants.{Sound}
 use Rattle.layout.specs.declared.answer.Counted.{Counted}
 use Rattle.layout.specs.declared.answer.Grouped.{Grouped}
 use Rattle.layout.specs.declared.answer.Named.{Named}
@@ -23,7 +22,7 @@ use Rattle.layout.specs.declared.answer.Standing.{Standing}
 use Rattle.layout.proofs.Bodies.{body-accepted, group-there}
 use Rattle.find.specs.declared.Search.the-variants.{Refused, Missing, Found}
 use Rattle.find.specs.Find.{groupLocated, partLocated}
-use Rattle.find.proofs.AskLaws.{There, PartThere, of-refused, of-missing, of-found, group-there-is, part-there-is, part-stopped, part-ended, part-missed, part-asked}
+use Rattle.find.proofs.AskLaws.{There, of-refused, of-missing, of-found, group-there-is, part-there-is, part-stopped, part-ended, part-missed, part-asked}
 
 -- ---- a body
 

@@ -1,23 +1,20 @@
 -- What may be written: one law for each way out.
 use Prim.Native.Nat.{ℕ, _+_, _*_, _-_, _≤_, _<_}
-use mathlib.Core.Path.{_≡_, refl, sym, _∙_, ap}
-use mathlib.Core.Bool.{true, false, cond}
-use mathlib.Core.List.{List, _++_}
+use mathlib.Core.Path.{_≡_}
+use mathlib.Core.Bool.{true, false}
+use mathlib.Core.List.{List}
 use native.Mathlib.Omega.{arith}
-use lib.ListN.{length, getD, set, drop, replicate}
+use lib.ListN.{length, getD, set, replicate}
 use borrow.Author.Tests.{eq-eqb, ne-eqb, lt-ltb, le-ltb}
 use Rattle.layout.specs.declared.record.Record.{Record}
 use Rattle.layout.specs.declared.record.SecondTable.{SecondTable}
 use Rattle.layout.specs.declared.record.SecondTable.the-variants.{Absent, Value}
-use Rattle.layout.specs.Bytes.{CSEG, Sdec, four, chunk}
-use Rattle.layout.specs.Edit.{replaced}
 use Rattle.layout.specs.Ranges.{firstEdition}
 use Rattle.layout.specs.Records.{channelOf, firstBad}
 use Rattle.layout.specs.Sdec.{soundText}
 use Rattle.layout.proofs.Records.{ranged, ranged-channel}
 use Rattle.plan.specs.declared.Checked.{Checked}
-use Rattle.plan.specs.declared.Plan.{Plan}
-use Rattle.plan.specs.Checking.{refusedAt, begun, chunksSize, looked, noPlan, planned, startPlace, startBytes}
+use Rattle.plan.specs.Checking.{refusedAt, begun, chunksSize, looked, noPlan, planned}
 
 module _ (text : List ℕ) (lent count : ℕ) where
   pub begun-many : lent < count → begun text lent count ≡ refusedAt 16 0

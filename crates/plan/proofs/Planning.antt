@@ -3,7 +3,7 @@ use Prim.Native.Nat.{ℕ, zero, suc, _+_, _-_, _≤_, _<_}
 use mathlib.Core.Path.{_≡_, refl, sym, _∙_, ap}
 use mathlib.Core.Logic.{_⊎_, inl, inr}
 use mathlib.Core.Bool.{Bool, true, false, cond}
-use mathlib.Core.List.{List, [], _∷_, _++_, flatMap}
+use mathlib.Core.List.{List, _++_, flatMap}
 use native.Mathlib.Omega.{arith}
 use native.Mathlib.Decide.{decLt}
 use lib.Dec.{ltb}
@@ -11,10 +11,10 @@ use lib.ListN.{length, getD, take, replicate, length-append}
 use lib.Seq.{getD-take, length-take-le, take-all}
 use borrow.Author.Tests.{lt-ltb, le-ltb}
 use Rattle.layout.specs.declared.record.Record.{Record}
-use Rattle.layout.specs.declared.turn.Run.the-variants.{Stopped, Ended}
+use Rattle.layout.specs.declared.turn.Run.the-variants.{Ended}
 use Rattle.layout.specs.Scan.{run}
-use Rattle.layout.specs.Bytes.{CSEG, Sdec, four, chunk}
-use Rattle.layout.specs.Answers.{Answer, refused, granted, afterRun}
+use Rattle.layout.specs.Bytes.{four, chunk}
+use Rattle.layout.specs.Answers.{refused, granted, afterRun}
 use Rattle.layout.specs.Ranges.{firstEdition}
 use Rattle.layout.specs.Records.{blank, channelOf}
 use Rattle.layout.specs.Sdec.{soundText}
@@ -23,7 +23,7 @@ use Rattle.layout.proofs.Scans.{run-end}
 use Rattle.plan.specs.declared.Checked.{Checked}
 use Rattle.plan.specs.declared.Plan.{Plan}
 use Rattle.plan.specs.Chunks.{chunkOf, chunksOf}
-use Rattle.plan.specs.Checking.{refusedAt, begun, looked, lookedAt, noPlan, planned, planOf}
+use Rattle.plan.specs.Checking.{refusedAt, lookedAt, noPlan, planned, planOf}
 use Rattle.plan.proofs.Seen.{seen-start}
 use Rattle.plan.proofs.Looking.{begun-many, begun-bad, begun-sound, planned-not, planned-short, planned-fits}
 use Rattle.plan.proofs.Running.{sizes, Going, Halted, going}

@@ -2,23 +2,23 @@
 use Prim.Native.Nat.{ℕ, zero, suc, _+_, _*_, _≤_, _<_}
 use mathlib.Core.Path.{_≡_, refl, sym, _∙_, ap}
 use mathlib.Core.Logic.{_⊎_, inl, inr}
-use mathlib.Core.Bool.{Bool, true, false, cond, not}
-use mathlib.Core.List.{List, [], _∷_, _++_}
+use mathlib.Core.Bool.{Bool, true, false}
+use mathlib.Core.List.{List}
 use native.Mathlib.Omega.{arith}
 use native.Mathlib.Decide.{decLt}
 use native.Mathlib.Numerals.{add-one}
 use lib.Dec.{ltb, eqb}
-use lib.ListN.{length, getD, set, take, length-append}
-use borrow.Author.Tests.{eq-eqb, ne-eqb, lt-ltb, le-ltb, ltb-true, ltb-false, eqb-true, eqb-false}
+use lib.ListN.{length, getD, take, length-append}
+use borrow.Author.Tests.{lt-ltb, le-ltb}
 use Rattle.layout.specs.declared.record.Record.{Record}
 use Rattle.layout.specs.declared.turn.Turn.{Turn}
 use Rattle.layout.specs.declared.turn.Turn.the-variants.{Refused, More}
-use Rattle.layout.specs.declared.turn.Run.the-variants.{Stopped, Ended}
+use Rattle.layout.specs.declared.turn.Run.the-variants.{Stopped}
 use Rattle.layout.specs.Scan.{first, run}
 use Rattle.layout.specs.Ranges.{firstEdition}
 use Rattle.layout.specs.Records.{blank, channelOf, firstBad}
 use Rattle.layout.specs.Write.{recordOn, recordTurn}
-use Rattle.layout.proofs.Scans.{run-end, run-stop, run-more}
+use Rattle.layout.proofs.Scans.{run-stop, run-more}
 use Rattle.plan.specs.declared.Checked.{Checked}
 use Rattle.plan.specs.Chunks.{chunkOf, chunksOf}
 use Rattle.plan.specs.Checking.{refusedAt, chunksSize, looked, lookedAt}

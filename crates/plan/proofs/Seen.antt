@@ -1,7 +1,7 @@
 -- Laws of the table of source channels seen: empty at the start, one set for each record.
-use Prim.Native.Nat.{ℕ, _+_, _<_, _≤_}
-use mathlib.Core.Path.{_≡_, refl, sym, _∙_, ap}
-use mathlib.Core.Bool.{Bool, true, false, cond}
+use Prim.Native.Nat.{ℕ, _+_, _<_}
+use mathlib.Core.Path.{_≡_, refl, sym, _∙_}
+use mathlib.Core.Bool.{Bool, true, false}
 use mathlib.Core.List.{List}
 use native.Mathlib.Omega.{arith}
 use native.Mathlib.Decide.{decLt}
@@ -10,7 +10,7 @@ use lib.ListN.{length, getD, set, replicate, length-set, getD-replicate}
 use lib.Seq.{getD-set-same, getD-set-other}
 use borrow.Author.Tests.{eq-eqb, ne-eqb, lt-ltb, le-ltb}
 use Rattle.layout.specs.Scan.{first}
-use Rattle.layout.proofs.Scans.{first-end, first-kept, first-grown, first-within}
+use Rattle.layout.proofs.Scans.{first-kept, first-grown, first-within}
 
 -- the table s says of every channel whether one of the first n records has it, record number i having the channel `chan i`
 pub record Seen (chan : ℕ → ℕ) (n : ℕ) (s : List Bool) : Type 0 where

@@ -6,8 +6,8 @@ use mathlib.Core.Bool.{Bool, true, false, cond, not}
 use mathlib.Core.List.{List, _++_}
 use lib.Dec.{ltb, eqb}
 use lib.ListN.{length, getD, take, drop, length-append, length-drop, take-append-drop, List·getD-append}
-use lib.Seq.{length-take-le, take-take, getD-take, take-append-le, drop-append-le}
-use borrow.Author.Tests.{ne-eqb, eqb-true, eqb-false}
+use lib.Seq.{length-take-le, take-take, take-append-le, drop-append-le}
+use borrow.Author.Tests.{ne-eqb, eqb-false}
 use Rattle.layout.specs.declared.turn.Turn.the-variants.{Refused, More, Done}
 use Rattle.layout.specs.declared.turn.Run.{Run}
 use Rattle.layout.specs.declared.turn.Run.the-variants.{Stopped, Ended}

@@ -1,6 +1,6 @@
 -- The place of a refused file is one of its bytes, or its length; a CASM section that is found stands within the file.
-use Prim.Native.Nat.{ℕ, _+_, _≤_, _<_}
-use mathlib.Core.Path.{_≡_, refl, sym, ap, _∙_}
+use Prim.Native.Nat.{ℕ, _+_, _≤_}
+use mathlib.Core.Path.{_≡_, refl}
 use mathlib.Core.Bool.{Bool, true, false, cond}
 use mathlib.Core.List.{List}
 use native.Mathlib.Omega.{arith}
@@ -8,7 +8,7 @@ use lib.Dec.{ltb, leb, eqb}
 use lib.ListN.{length}
 use borrow.Author.Tests.{leb-false}
 use Rattle.layout.specs.Bytes.{word, tagAt, CASM}
-use Rattle.layout.specs.Answers.{Answer, refused, granted, afterRun, Span}
+use Rattle.layout.specs.Answers.{refused, granted, afterRun, Span}
 use Rattle.layout.specs.Style.{noStyle, sectionPlace, sectionTagged, sectionTurnAt, sectionTurn, sectionsRun, sectionAt, casmAmong, casmFound}
 use Rattle.layout.specs.declared.turn.Run.{Run}
 use Rattle.layout.specs.declared.turn.Run.the-variants.{Stopped, Ended}

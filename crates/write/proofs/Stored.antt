@@ -2,15 +2,14 @@
 use Prim.Native.Nat.{ℕ, _+_, _-_, _≤_}
 use mathlib.Core.Path.{_≡_, refl, sym, _∙_, ap}
 use mathlib.Core.Bool.{Bool, true, false}
-use mathlib.Core.List.{List, [], _∷_, _++_, append-assoc, append-nil}
+use mathlib.Core.List.{List, [], _∷_, _++_, append-assoc}
 use native.Mathlib.Omega.{arith}
-use lib.ListN.{length, getD, set, take, drop}
-use lib.Seq.{drop-cons, set-at}
+use lib.ListN.{length, set, drop}
+use lib.Seq.{drop-cons}
 use borrow.Rule.Slice.PartMut.{midOf, putMid, mid-len}
 use Rattle.layout.specs.declared.record.Record.{Record}
-use Rattle.layout.specs.declared.record.SecondTable.{SecondTable}
 use Rattle.layout.specs.declared.record.SecondTable.the-variants.{Absent, Value}
-use Rattle.layout.specs.Bytes.{four, chunk, CSEG, Sdec, Ctab, Cntt}
+use Rattle.layout.specs.Bytes.{four, chunk, CSEG, Sdec, Ctab}
 use Rattle.layout.specs.Records.{bytesOf, channelOf, fileBytes}
 use Rattle.layout.proofs.Replaced.{replaced-none}
 use Rattle.layout.proofs.Ctabs.{ctab-tag}

@@ -1,24 +1,22 @@
 -- What the steps of the writer leave in the buffer is what the definition writes there.
 use Prim.Native.Nat.{ℕ, _+_, _-_, _≤_}
-use mathlib.Core.Path.{_≡_, refl, sym, _∙_, ap}
+use mathlib.Core.Path.{_≡_, refl, _∙_, ap}
 use mathlib.Core.Logic.{_⊎_, inl, inr}
-use mathlib.Core.Bool.{Bool, true, false, cond}
-use mathlib.Core.List.{List, [], _∷_, _++_, flatMap, append-assoc}
+use mathlib.Core.Bool.{true, false}
+use mathlib.Core.List.{List, _++_, flatMap, append-assoc}
 use native.Mathlib.Omega.{arith}
 use lib.ListN.{length, take, drop, length-append}
-use lib.Seq.{take-all}
 use borrow.Author.Tests.{ne-eqb}
 use Rattle.layout.specs.declared.record.Record.{Record}
 use Rattle.layout.specs.Bytes.{CSEG, Sdec, four, chunk}
-use Rattle.layout.specs.Answers.{refused, granted, numberOf, placeOf, valueOr, lentAfter, measured}
+use Rattle.layout.specs.Answers.{numberOf, placeOf, valueOr, lentAfter, measured}
 use Rattle.layout.specs.Edit.{replaced}
-use Rattle.layout.specs.Write.{payloadBytes, groupBytes, groupFrom, written}
+use Rattle.layout.specs.Write.{payloadBytes, groupBytes, groupFrom}
 use Rattle.layout.specs.Promises.{GroupWritten}
 use Rattle.layout.proofs.Replaced.{replaced-start, replaced-twice}
 use Rattle.plan.specs.declared.Plan.{Plan}
 use Rattle.plan.specs.Chunks.{chunkOf, chunksOf}
 use Rattle.plan.specs.Checking.{noPlan, planOf, measuredBy, startPlace, startBytes}
-use Rattle.plan.proofs.Running.{sizes}
 use Rattle.plan.proofs.Planning.{group-length, NotPlanned, Planned, plan-says}
 
 -- what is so of every plan: each step has the room that it asks for

@@ -1,5 +1,5 @@
 -- k goes up to n.
-use Prim.Native.Nat.{_-_, _≤_}
+use Prim.Native.Nat.{_-_}
 use borrow.Author.Needs.{needs}
 use Rattle.entries.proofs.is_kept.Statement.{statement}
 use Rattle.entries.proofs.is_kept.Tie as tie

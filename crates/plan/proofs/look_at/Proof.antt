@@ -1,8 +1,6 @@
-use Prim.Native.Nat.{_<_, _≤_}
-use mathlib.Core.Path.{_≡_, sym, _∙_}
+use mathlib.Core.Path.{sym, _∙_}
 use native.Mathlib.Omega.{arith}
 use Rattle.layout.specs.Records.{channelOf}
-use Rattle.plan.specs.Checking.{chunksSize}
 use Rattle.plan.proofs.Looking.{looked-stays, looked-bad, channel-low, looked-again, looked-on, size-most}
 use borrow.Author.Needs.{needs}
 use Rattle.plan.proofs.look_at.Statement.{statement}

@@ -1,6 +1,4 @@
-use mathlib.Core.Path.{sym, _∙_}
 use native.Mathlib.Omega.{arith}
-use lib.ListN.{length}
 use borrow.Author.Tests.{not-true, not-false}
 use Rattle.write.proofs.Stored.{ctab-fits, cntt-fits, ctab-replaced, cntt-replaced, none-replaced}
 use borrow.Author.Needs.{needs}

@@ -1,5 +1,4 @@
 use native.Mathlib.Omega.{arith}
-use lib.ListN.{length}
 use Rattle.write.proofs.Stored.{sdec-stored}
 use borrow.Author.Needs.{needs}
 use Rattle.write.proofs.chunks.put_sdec.Statement.{statement}

@@ -1,10 +1,9 @@
 -- The eight bytes are stored one after the other; `stored` says which.
 use Prim.Native.Nat.{ℕ, _/_, _%_}
-use mathlib.Core.Path.{_≡_, refl, _∙_}
 use mathlib.Core.List.{List, _∷_, [], _++_}
 use native.Mathlib.Omega.{arith}
-use lib.ListN.{length, take, drop}
-use lib.Seq.{sets, sets-eq, lt-length-sets, length-sets}
+use lib.ListN.{take}
+use lib.Seq.{sets-eq, lt-length-sets}
 use Rattle.layout.specs.Bytes.{four}
 use borrow.Author.Needs.{needs}
 use Rattle.write.proofs.put.put_head.Statement.{statement}

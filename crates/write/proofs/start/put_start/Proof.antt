@@ -1,5 +1,4 @@
 use native.Mathlib.Omega.{arith}
-use lib.ListN.{length}
 use Rattle.write.proofs.Starts.{start-none, start-put}
 use borrow.Author.Needs.{needs}
 use Rattle.write.proofs.start.put_start.Statement.{statement}
