@@ -55,10 +55,10 @@ use Rattle.layout.proofs.record.Record as T
 use Rattle.layout.proofs.record.Record.Laws as T′
 use Rattle.layout.proofs.answer.Counted as Q
 use Rattle.layout.proofs.answer.Counted.Laws as Q′
-use Rattle.casm.proofs.records.read_records as read
-use Rattle.casm.proofs.records.read_records.Symbol as read-def
-use Rattle.casm.proofs.records.read_records.Symbol.{name as #read-records}
-use Rattle.casm.proofs.records.read_records.Met as read-thm
+use Rattle.filled.proofs.read_records as read
+use Rattle.filled.proofs.read_records.Symbol as read-def
+use Rattle.filled.proofs.read_records.Symbol.{name as #read-records}
+use Rattle.filled.proofs.read_records.Met as read-thm
 use Rattle.bridge.specs.declared.Filled.{Filled}
 use Rattle.bridge.proofs.Filled as B
 use Rattle.bridge.proofs.Filled.Laws as B′

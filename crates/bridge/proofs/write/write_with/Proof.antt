@@ -53,10 +53,10 @@ use Rattle.layout.proofs.answer.Measured as Q
 use Rattle.layout.proofs.answer.Measured.Laws as Q′
 use Rattle.layout.proofs.record.Record as T
 use Rattle.layout.proofs.record.Record.Laws as T′
-use Rattle.casm.proofs.writing.write_group as write
-use Rattle.casm.proofs.writing.write_group.Symbol as write-def
-use Rattle.casm.proofs.writing.write_group.Symbol.{name as #casm·write-group}
-use Rattle.casm.proofs.writing.write_group.Met as write-thm
+use Rattle.written.proofs.write_group as write
+use Rattle.written.proofs.write_group.Symbol as write-def
+use Rattle.written.proofs.write_group.Symbol.{name as #written·write-group}
+use Rattle.written.proofs.write_group.Met as write-thm
 use Rattle.lent.proofs.Again.{LentAgain, lends-again, comes-back}
 use Rattle.bridge.proofs.Lending.{lent-all}
 use Rattle.bridge.proofs.Cells.{R, vals, AR, arrv, arrTy, typed, Part, Rest, to-parts, from-parts, Lent, said-lent, to-lent, goes-lent}
@@ -152,7 +152,7 @@ module _ {M : Type 1} (𝓤 : URA M) (H : Heap 𝓤) (A : Atoms 𝓤) (W : Given
       -- [what the table owns; what the output owns; what the text owns; the tokens]
       nothing ! $ move ! (2 ∷ 0 ∷ []) $ fjoin ! $ owned ! usize (Is usize) (uint-makes 𝓤 H A W w64) count _ (refl, fits) $ fjoin ! $ move ! (1 ∷ 0 ∷ []) $ fjoin ! $ move ! (1 ∷ 0 ∷ []) $ fjoin ! $ move ! (1 ∷ 0 ∷ []) $ join ! $ frame ! $ done !
 
-  module _ (C : Calls 𝓤 H) (Λ : Loops 𝓤 H) (fm : FmC 𝓤 H (W .laws) C) (known-few : Triple 𝓤 (C #bridge·lent-of) (Lent 𝓤 H A at-mem run)) (known-write : Triple 𝓤 (C #casm·write-group) (Write 𝓤 H A at-mem run)) where
+  module _ (C : Calls 𝓤 H) (Λ : Loops 𝓤 H) (fm : FmC 𝓤 H (W .laws) C) (known-few : Triple 𝓤 (C #bridge·lent-of) (Lent 𝓤 H A at-mem run)) (known-write : Triple 𝓤 (C #written·write-group) (Write 𝓤 H A at-mem run)) where
     walk : length ts < 2 ^ 64 → Room u8 (length ys) → asked < 2 ^ 64 → count < 2 ^ 64 → Is AR xs (arrv xs ∷ [])
         → ent 𝓤 (onEntry 𝓤 H A with′.signature (κ₁, (κ₂, tt)) (q₁, (q₂, tt)) a args) (WpFn 𝓤 H C Λ code.function (s₁ ∷ arrv xs ∷ vint w64 asked ∷ vint w64 count ∷ s ∷ []) Post)
     unfolding partOf
@@ -218,7 +218,7 @@ module _ {M : Type 1} (𝓤 : URA M) (H : Heap 𝓤) (A : Atoms 𝓤) (W : Given
         slice₉ : Ty
         slice₉ = sliceTy (tyRef erased imm (pointee (R .written)))
 
-module _ {M : Type 1} (𝓤 : URA M) (H : Heap 𝓤) (A : Atoms 𝓤) (W : Given 𝓤 H A) (at-mem : Memory → SProp 𝓤) (run : Routine → Fun 𝓤) (𝓣 : Tables 𝓤 H) (known-few : Triple 𝓤 (𝓣 .C #bridge·lent-of) (Lent 𝓤 H A at-mem run)) (known-write : Triple 𝓤 (𝓣 .C #casm·write-group) (Write 𝓤 H A at-mem run)) where
+module _ {M : Type 1} (𝓤 : URA M) (H : Heap 𝓤) (A : Atoms 𝓤) (W : Given 𝓤 H A) (at-mem : Memory → SProp 𝓤) (run : Routine → Fun 𝓤) (𝓣 : Tables 𝓤 H) (known-few : Triple 𝓤 (𝓣 .C #bridge·lent-of) (Lent 𝓤 H A at-mem run)) (known-write : Triple 𝓤 (𝓣 .C #written·write-group) (Write 𝓤 H A at-mem run)) where
   with-walks : Walks 𝓤 H A with′.ended stayed (WpFn 𝓤 H (𝓣 .C) (𝓣 .Λ) code.function) (with′.clauses 𝓤 H A at-mem run)
   with-walks = walked 𝓤 H A with′.ended stayed (with′.clauses 𝓤 H A at-mem run) (WpFn 𝓤 H (𝓣 .C) (𝓣 .Λ) code.function)
       (λ κs. (slice-vals, (array-vals vals, (uint-vals w64, (uint-vals w64, (slice-vals, tt))))))
@@ -239,4 +239,4 @@ write-with-spec 𝓤 H 𝓜 𝓖 𝓡 =
     (tables 𝓤 H 𝓜 𝓡 code.env .C) (tables 𝓤 H 𝓜 𝓡 code.env .Λ) #bridge·write-with code.function (code.unfolded 𝓤 H 𝓜 𝓡)
     (with-meets 𝓤 H (𝓖 .A) (givenOf 𝓤 H 𝓜 𝓖) (𝓜 .mem) (𝓡 .run) (tablesOf 𝓤 H 𝓜 (tables 𝓤 H 𝓜 𝓡 code.env))
     (cited 𝓤 H (Lent 𝓤 H (𝓖 .A) (𝓜 .mem) (𝓡 .run)) 𝓜 𝓡 code.env #bridge·lent-of few-def.routine code.calls-bridge·lent-of (few-thm.met 𝓤 H 𝓜 𝓖 𝓡))
-    (cited 𝓤 H (Write 𝓤 H (𝓖 .A) (𝓜 .mem) (𝓡 .run)) 𝓜 𝓡 code.env #casm·write-group write-def.routine code.calls-casm·writing·write-group (write-thm.met 𝓤 H 𝓜 𝓖 𝓡)))
+    (cited 𝓤 H (Write 𝓤 H (𝓖 .A) (𝓜 .mem) (𝓡 .run)) 𝓜 𝓡 code.env #written·write-group write-def.routine code.calls-casm·writing·write-group (write-thm.met 𝓤 H 𝓜 𝓖 𝓡)))

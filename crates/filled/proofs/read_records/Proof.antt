@@ -72,12 +72,12 @@ use Rattle.table.proofs.counted as count
 use Rattle.table.proofs.counted.Symbol as count-def
 use Rattle.table.proofs.counted.Symbol.{name as #count}
 use Rattle.table.proofs.counted.Met as count-thm
-use Rattle.casm.proofs.RecordLaws.{filled, filled-none, filled-next, filled-length, planned, planned-within, records-read}
-use Rattle.casm.proofs.records.read_records.Key.{name as #read-records}
-use Rattle.casm.proofs.records.read_records as read
-use Rattle.casm.proofs.records.read_records.Statement as stated
-use Rattle.casm.proofs.records.read_records.Code as code
-use Rattle.casm.proofs.records.read_records.Code.Mir as mir
+use Rattle.filled.proofs.RecordLaws.{filled, filled-none, filled-next, filled-length, planned, planned-within, records-read}
+use Rattle.filled.proofs.read_records.Key.{name as #read-records}
+use Rattle.filled.proofs.read_records as read
+use Rattle.filled.proofs.read_records.Statement as stated
+use Rattle.filled.proofs.read_records.Code as code
+use Rattle.filled.proofs.read_records.Code.Mir as mir
 
 abbrev R : RattleType
 R = T.the-row

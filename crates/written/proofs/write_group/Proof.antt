@@ -71,11 +71,11 @@ use Rattle.plan.proofs.measured as measured
 use Rattle.plan.proofs.measured.Symbol as measured-def
 use Rattle.plan.proofs.measured.Symbol.{name as #plan·measured}
 use Rattle.plan.proofs.measured.Met as measured-thm
-use Rattle.casm.proofs.writing.write_group.Key.{name as #casm·write-group}
-use Rattle.casm.proofs.writing.write_group as group
-use Rattle.casm.proofs.writing.write_group.Statement as stated
-use Rattle.casm.proofs.writing.write_group.Code as code
-use Rattle.casm.proofs.writing.write_group.Code.Mir as mir
+use Rattle.written.proofs.write_group.Key.{name as #written·write-group}
+use Rattle.written.proofs.write_group as group
+use Rattle.written.proofs.write_group.Statement as stated
+use Rattle.written.proofs.write_group.Code as code
+use Rattle.written.proofs.write_group.Code.Mir as mir
 
 abbrev R : RattleType
 R = T.the-row
@@ -416,7 +416,7 @@ pub write-group-spec : {M : Type 1} → stated.statement M
 unfolding code.routine tablesOf
 write-group-spec 𝓤 H 𝓜 𝓖 𝓡 =
     entered 𝓤 H (tripleOf 𝓤 H (𝓖 .A) group.signature (group.spec 𝓤 H (𝓖 .A) (𝓜 .mem) (𝓡 .run)))
-    (tables 𝓤 H 𝓜 𝓡 code.env .C) (tables 𝓤 H 𝓜 𝓡 code.env .Λ) #casm·write-group code.function (code.unfolded 𝓤 H 𝓜 𝓡)
+    (tables 𝓤 H 𝓜 𝓡 code.env .C) (tables 𝓤 H 𝓜 𝓡 code.env .Λ) #written·write-group code.function (code.unfolded 𝓤 H 𝓜 𝓡)
     (group-meets 𝓤 H (𝓖 .A) (givenOf 𝓤 H 𝓜 𝓖) (𝓜 .mem) (𝓡 .run) (tablesOf 𝓤 H 𝓜 (tables 𝓤 H 𝓜 𝓡 code.env))
     (cited 𝓤 H (Planning 𝓤 H (𝓖 .A) (𝓜 .mem) (𝓡 .run)) 𝓜 𝓡 code.env #lent·plan-group plan-def.routine code.calls-lent·plan-group (plan-thm.met 𝓤 H 𝓜 𝓖 𝓡))
     (cited 𝓤 H (Start 𝓤 H (𝓖 .A) (𝓜 .mem) (𝓡 .run)) 𝓜 𝓡 code.env #write·put-start start-def.routine code.calls-write·start·put-start (start-thm.met 𝓤 H 𝓜 𝓖 𝓡))
