@@ -10,21 +10,21 @@ use layout::record::SourceChannel;
 pub fn who_plays(s: &[u8], name: &[u8], root: u8, kind: u8) -> Played
     ensures { λ r. ⌜ PlaysTold (now (s .entry)) (now (name .entry)) root kind r ⌝ }
 {
-    ask::who_plays(s, name, root, kind)
+    plays::who_plays(s, name, root, kind)
 }
 
 // Where the voice name of a source channel's record stands, its trailing spaces left off.
 pub fn find_voice(s: &[u8], group: usize, channel: SourceChannel) -> Spanned
     ensures { λ r. ⌜ VoiceFound (now (s .entry)) group (channel .0) r ⌝ }
 {
-    ask::find_voice(s, group, channel)
+    voice::find_voice(s, group, channel)
 }
 
 // The voice name itself, where it lies; empty on refusal and for eight spaces.
 pub fn voice_name<'a>(s: &'a [u8], group: usize, channel: SourceChannel) -> &'a [u8]
     ensures { λ r. ⌜ VoiceShown (now (s .entry)) group (channel .0) (now r) ⌝ }
 {
-    ask::voice_name(s, group, channel)
+    voice::voice_name(s, group, channel)
 }
 
 // The note that a record gives under a chord root, or silence, or the refusal.

@@ -1,25 +1,21 @@
 -- An edit: one law for each way out.
-use Prim.Native.Nat.{ℕ, _+_, _-_, _*_, _≤_, _<_}
+use Prim.Native.Nat.{ℕ, _+_, _-_, _≤_, _<_}
 use mathlib.Core.Path.{_≡_, refl, sym, _∙_, ap}
-use mathlib.Core.Bool.{cond}
 use mathlib.Core.List.{List, _++_}
-use lib.Dec.{leb}
 use lib.ListN.{length, drop}
-use borrow.Author.Tests.{eq-eqb, ne-eqb, lt-ltb, le-ltb, le-leb, lt-leb}
+use borrow.Author.Tests.{eq-eqb, ne-eqb, lt-ltb, le-ltb}
 use borrow.Rule.Slice.PartMut.{midOf, putMid}
 use Rattle.layout.specs.declared.answer.Answered.{Answered}
-use Rattle.layout.specs.declared.answer.Standing.{Standing}
 use Rattle.layout.specs.declared.record.Record.{Record}
 use Rattle.layout.specs.Answers.{refused, granted, numberOf, placeOf, valueOr, answered}
 use Rattle.layout.specs.Ranges.{firstEdition, ranges, firstOut}
 use Rattle.layout.specs.Records.{bytesOf, channelOf, fileBytes}
-use Rattle.layout.specs.Group.{ctabOf}
-use Rattle.layout.specs.Body.{ofChannel, rowOf, rowIn}
+use Rattle.layout.specs.Body.{channelFound}
 use Rattle.layout.specs.Edit.{replaced, firstEdited, edited}
 use Rattle.layout.specs.Promises.{RecordEdited}
-use Rattle.find.specs.declared.Search.the-variants.{Refused, Missing}
-use Rattle.find.specs.Find.{groupLocated}
-use Rattle.find.proofs.AskLaws.{There, of-refused, of-missing, of-found}
+use Rattle.find.specs.declared.row.Sought.the-variants.{Refused as No, At}
+use Rattle.find.specs.Row.{sought}
+use Rattle.find.proofs.RowLaws.{record-refused, record-there}
 use Rattle.write.proofs.Tails.{tail-replaced}
 use Rattle.edit.specs.EditAt.{editedAt, EditedAt, told}
 
@@ -56,23 +52,12 @@ module _ (s : List ℕ) (g channel : ℕ) (r : Record) where
   unfolding answered numberOf placeOf valueOr
   not-edited number place a q e = record { answer = q ∙ rw e; body = rw e }
 
-  pub edit-refused : (number place : ℕ) (a : Answered) → a ≡ told number place → groupLocated s g ≡ Refused number place → RecordEdited s g channel r a s
+  pub edit-refused : (number place : ℕ) (a : Answered) → a ≡ told number place → sought (channelFound s g channel) ≡ No number place → RecordEdited s g channel r a s
   unfolding edited
-  edit-refused number place a q h = not-edited number place a q (of-refused s g _ number place h)
+  edit-refused number place a q h = not-edited number place a q (record-refused s g channel _ number place h)
 
-  pub edit-missing : (a : Answered) → a ≡ told 16 0 → groupLocated s g ≡ Missing → RecordEdited s g channel r a s
-  unfolding edited
-  edit-missing a q h = not-edited 16 0 a q (of-missing s g _ h)
-
-  module _ (x : Standing) (there : There s g x) (i : ℕ) (e : i ≡ ctabOf firstEdition s (x .ctabs) (x .records) channel) where
-    asked : edited s g channel r ≡ cond (leb (x .records) i) (refused 15 0) (editedAt s (rowOf x i .at) channel r)
-    unfolding edited ofChannel rowIn editedAt
-    asked = of-found s g _ x there ∙ rw (there .stands, e)
-
-    pub edit-none : (a : Answered) → a ≡ told 15 0 → x .records ≤ i → RecordEdited s g channel r a s
-    edit-none a q h = not-edited 15 0 a q (asked ∙ rw (le-leb (x .records) i h))
-
-    pub edit-there : (a : Answered) (after : List ℕ) → i < x .records → EditedAt s (x .ctabs + 35 * i + 8) channel r a after → RecordEdited s g channel r a after
-    edit-there a after h w =
-        let z : edited s g channel r ≡ editedAt s (x .ctabs + 35 * i + 8) channel r = asked ∙ rw (lt-leb (x .records) i h) in
-        record { answer = w .answer ∙ ap answered (sym z); body = w .body ∙ ap (valueOr s) (sym z) }
+  pub edit-there : (i at : ℕ) (a : Answered) (after : List ℕ) → sought (channelFound s g channel) ≡ At i at → EditedAt s at channel r a after → RecordEdited s g channel r a after
+  unfolding edited editedAt
+  edit-there i at a after h w =
+      let z : edited s g channel r ≡ editedAt s at channel r = record-there s g channel (λ row. editedAt s (row .at) channel r) i at h in
+      record { answer = w .answer ∙ ap answered (sym z); body = w .body ∙ ap (valueOr s) (sym z) }

@@ -4,9 +4,8 @@ ghost use Prim.Native.Nat.{_+_, _≤_};
 ghost use lib.ListN.{length};
 ghost use Rattle.layout.specs.Promises.{RecordEdited};
 ghost use Rattle.edit.specs.EditAt.{EditedAt, told};
-use find::Search;
-use find::find_group;
-use find::find_row;
+use find::row::Sought;
+use find::row::find_record;
 use layout::answer::Answered;
 use layout::record::Record;
 use layout::record::SourceChannel;
@@ -45,15 +44,8 @@ fn edit_at(s: &mut [u8], at: usize, channel: SourceChannel, new: Record) -> Answ
 pub fn edit_record(s: &mut [u8], group: usize, channel: SourceChannel, new: Record) -> Answered
     ensures { λ r. ⌜ RecordEdited (now (s .entry)) group (channel .0) new r (now (s .exit)) ⌝ }
 {
-    match find_group(s, group) {
-        Search::Refused(number, place) => answer(number, place),
-        Search::Missing => answer(16, 0),
-        Search::Found(_, x) => {
-            let row = find_row(s, x.ctabs, x.records, channel.0);
-            if x.records <= row {
-                return answer(15, 0);
-            }
-            edit_at(s, x.ctabs + 35 * row + 8, channel, new)
-        }
+    match find_record(s, group, channel) {
+        Sought::Refused(number, place) => answer(number, place),
+        Sought::At(_, at) => edit_at(s, at, channel, new),
     }
 }

@@ -1,10 +1,11 @@
-// The groups of an accepted body: one by its number, one by the name of a part, and a record by its source channel.
+// The groups of an accepted body: one by its number, one by the name of a part; and a record by its source channel.
+pub mod row;
+
 ghost use mathlib.Core.Path.{_≡_};
-ghost use Prim.Native.Nat.{_+_, _*_, _≤_};
+ghost use Prim.Native.Nat.{_+_, _≤_};
 ghost use lib.ListN.{length, drop};
 ghost use Rattle.layout.specs.Bytes.{word};
-ghost use Rattle.layout.specs.Ranges.{firstEdition};
-ghost use Rattle.layout.specs.Group.{ctabOf, groupAt};
+ghost use Rattle.layout.specs.Group.{groupAt};
 ghost use Rattle.layout.specs.Body.{standingAt};
 ghost use Rattle.layout.specs.declared.turn.Judged.the-variants.{Sound};
 ghost use Rattle.named.specs.Before.{Places};
@@ -88,19 +89,4 @@ pub fn find_part(s: &[u8], name: &[u8]) -> Search
             group_numbered(s, n, &read.places, &read.records, &read.seconds, k)
         }
     }
-}
-
-// The number of the first of n Ctabs from p on that has this source channel, or n where none has.
-pub fn find_row(s: &[u8], p: usize, n: usize, channel: u8) -> usize
-    requires { ⌜ p + 35 * n ≤ length (now s) ⌝ }
-    ensures { λ r. ⌜ r ≡ ctabOf firstEdition (now (s .entry)) p n channel ⌝ }
-{
-    let mut i: usize = 0;
-    while i < n {
-        if s[p + 35 * i + 8] == channel {
-            return i;
-        }
-        i += 1;
-    }
-    n
 }

@@ -118,9 +118,13 @@ rowIn s x channel = ctabOf firstEdition s (x .ctabs) (x .records) channel
 unfoldable pub ofChannel : {A : Type 0} → List ℕ → Standing → ℕ → (Row → Answer A) → Answer A
 ofChannel s x channel ask = cond (leb (x .records) (rowIn s x channel)) (refused notThere 0) (ask (rowOf x (rowIn s x channel)))
 
+-- what is asked of the record of a source channel in group number g: "16 for numbers, 15"
+abbrev pub ofRecord : {A : Type 0} → List ℕ → ℕ → ℕ → (Row → Answer A) → Answer A
+ofRecord s g channel ask = ofGroup s g (ofChannel s (standing s g) channel ask)
+
 -- a source channel in a group
 unfoldable pub channelFound : List ℕ → ℕ → ℕ → Answer Row
-channelFound s g channel = ofGroup s g (ofChannel s (standing s g) channel (λ row. granted row))
+channelFound s g channel = ofRecord s g channel (λ row. granted row)
 
 -- a row with every field 0
 abbrev pub noRow : Row

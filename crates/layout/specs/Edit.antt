@@ -8,7 +8,7 @@ use Rattle.layout.specs.Refusals.{outOfRange, badNumber}
 use Rattle.layout.specs.Answers.{Answer, refused, granted}
 use Rattle.layout.specs.Ranges.{Edition, firstEdition, firstOut}
 use Rattle.layout.specs.Records.{Record, bytesOf, channelOf, fileBytes}
-use Rattle.layout.specs.Body.{standing, ofGroup, ofChannel}
+use Rattle.layout.specs.Body.{ofRecord}
 
 -- the bytes b in place of those that stand at `at`
 unfoldable pub replaced : List ℕ → ℕ → List ℕ → List ℕ
@@ -21,7 +21,7 @@ firstEdited e r = firstOut (e .ranges) (bytesOf r) 0 (e .held)
 -- "after the body: 16 for numbers, 15, then an edit's source channel 16, then 9"; "only that Ctab's 27 bytes may change"
 unfoldable pub edited : List ℕ → ℕ → ℕ → Record → Answer (List ℕ)
 edited s g channel r =
-    ofGroup s g (ofChannel s (standing s g) channel (λ row.
+    ofRecord s g channel (λ row.
     cond (not (eqb (channelOf r) channel)) (refused badNumber 0)
     (cond (ltb (firstEdited firstEdition r) (firstEdition .held)) (refused outOfRange (firstEdited firstEdition r))
-    (granted (replaced s (row .at) (fileBytes r))))))
+    (granted (replaced s (row .at) (fileBytes r)))))

@@ -5,7 +5,7 @@ use mathlib.Core.List.{List, [], _∷_}
 use lib.Dec.{eqb}
 use lib.ListN.{length, take, drop}
 use Rattle.layout.specs.Answers.{Answer, granted, Span}
-use Rattle.layout.specs.Body.{standing, ofGroup, ofChannel}
+use Rattle.layout.specs.Body.{ofRecord}
 
 -- a byte before what is shown of the rest: 20H is left off where nothing follows it
 unfoldable pub before : ℕ → List ℕ → List ℕ
@@ -23,7 +23,7 @@ voiceBytes s at = take 8 (drop (at + 1) s)
 
 -- "it is asked for by body, group number and source channel"
 unfoldable pub voiceName : List ℕ → ℕ → ℕ → Answer (List ℕ)
-voiceName s g channel = ofGroup s g (ofChannel s (standing s g) channel (λ row. granted (trimmed (voiceBytes s (row .at)))))
+voiceName s g channel = ofRecord s g channel (λ row. granted (trimmed (voiceBytes s (row .at))))
 
 -- where what is shown starts in the body, and its length
 abbrev pub voiceSpanAt : List ℕ → ℕ → Span
@@ -31,4 +31,4 @@ voiceSpanAt s at = record { start = at + 1; size = length (trimmed (voiceBytes s
 
 -- the same question, answered by the place and length of the part
 unfoldable pub voiceSpan : List ℕ → ℕ → ℕ → Answer Span
-voiceSpan s g channel = ofGroup s g (ofChannel s (standing s g) channel (λ row. granted (voiceSpanAt s (row .at))))
+voiceSpan s g channel = ofRecord s g channel (λ row. granted (voiceSpanAt s (row .at)))

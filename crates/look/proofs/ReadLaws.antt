@@ -1,18 +1,13 @@
 -- The answers of strict reading, one law for each way out of a call.
-use Prim.Native.Nat.{ℕ, _+_, _*_, _-_, _≤_, _<_}
+use Prim.Native.Nat.{ℕ, _+_, _-_, _≤_, _<_}
 use native.Mathlib.Omega.{arith}
 use mathlib.Core.Path.{_≡_, refl, sym, _∙_}
-use mathlib.Core.Bool.{cond}
 use mathlib.Core.List.{List, []}
-use lib.Dec.{leb}
 use lib.ListN.{length, take, drop, length-drop, drop-of-length-le}
 use lib.Seq.{take-nil, take-all}
-use borrow.Author.Tests.{le-leb, lt-leb}
 use Rattle.layout.specs.Bytes.{word}
-use Rattle.layout.specs.Ranges.{firstEdition}
-use Rattle.layout.specs.Group.{ctabOf}
 use Rattle.layout.specs.Answers.{refused, granted, numberOf, placeOf, valueOr, afterRun, partOf, counted, named, nowhere, grouped}
-use Rattle.layout.specs.Body.{groupPlace, textAt, bodyRun, bodyRead, standingAt, standing, groupFound, partFound, rowOf, rowIn, ofChannel, channelFound, channelled, textOf}
+use Rattle.layout.specs.Body.{groupPlace, textAt, bodyRun, bodyRead, standingAt, standing, groupFound, partFound, channelFound, channelled, textOf}
 use Rattle.layout.specs.declared.turn.Run.the-variants.{Stopped, Ended}
 use Rattle.layout.specs.declared.answer.Counted.{Counted}
 use Rattle.layout.specs.declared.answer.Grouped.{Grouped}
@@ -21,8 +16,11 @@ use Rattle.layout.specs.declared.answer.Channelled.{Channelled}
 use Rattle.layout.specs.declared.answer.Standing.{Standing}
 use Rattle.layout.proofs.Bodies.{body-accepted, group-there}
 use Rattle.find.specs.declared.Search.the-variants.{Refused, Missing, Found}
+use Rattle.find.specs.declared.row.Sought.the-variants.{Refused as No, At}
 use Rattle.find.specs.Find.{groupLocated, partLocated}
+use Rattle.find.specs.Row.{sought}
 use Rattle.find.proofs.AskLaws.{There, of-refused, of-missing, of-found, group-there-is, part-there-is, part-stopped, part-ended, part-missed, part-asked}
+use Rattle.find.proofs.RowLaws.{record-refused, record-there}
 
 -- ---- a body
 
@@ -80,28 +78,13 @@ module _ (s name : List ℕ) where
 -- ---- a channel of a group
 
 module _ (s : List ℕ) (g channel : ℕ) where
-  pub channel-refused : (a b : ℕ) → groupLocated s g ≡ Refused a b → channelFound s g channel ≡ refused a b
-  unfolding channelFound
-  channel-refused a b h = of-refused s g _ a b h
+  pub channel-no : (a b : ℕ) → sought (channelFound s g channel) ≡ No a b → _≡_ {A = Channelled} (record { number = a; place = b; row = 0; at = 0 }) (channelled (channelFound s g channel))
+  unfolding channelFound channelled numberOf placeOf valueOr
+  channel-no a b h = rw (record-refused s g channel (λ row. granted row) a b h)
 
-  pub channel-missing : groupLocated s g ≡ Missing → channelFound s g channel ≡ refused 16 0
-  unfolding channelFound
-  channel-missing h = of-missing s g _ h
-
-  module _ (x : Standing) (there : There s g x) (i : ℕ) (e : i ≡ ctabOf firstEdition s (x .ctabs) (x .records) channel) where
-    asked : channelFound s g channel ≡ cond (leb (x .records) i) (refused 15 0) (granted (rowOf x i))
-    unfolding channelFound ofChannel rowIn
-    asked = of-found s g _ x there ∙ rw (there .stands, e)
-
-    pub channel-none : x .records ≤ i → channelFound s g channel ≡ refused 15 0
-    channel-none h = asked ∙ rw (le-leb (x .records) i h)
-
-    pub channel-there : i < x .records → _≡_ {A = Channelled} (record { number = 0; place = 0; row = i; at = x .ctabs + 35 * i + 8 }) (channelled (channelFound s g channel))
-    unfolding channelled numberOf placeOf valueOr
-    channel-there h = let q : channelFound s g channel ≡ granted (rowOf x i) = asked ∙ rw (lt-leb (x .records) i h) in rw q
-
-  pub channel-no : (a b : ℕ) → channelFound s g channel ≡ refused a b → channelled (refused a b) ≡ channelled (channelFound s g channel)
-  channel-no a b e = rw e
+  pub channel-at : (i at : ℕ) → sought (channelFound s g channel) ≡ At i at → _≡_ {A = Channelled} (record { number = 0; place = 0; row = i; at = at }) (channelled (channelFound s g channel))
+  unfolding channelFound channelled numberOf placeOf valueOr
+  channel-at i at h = rw (record-there s g channel (λ row. granted row) i at h)
 
 -- ---- the text of a group
 
