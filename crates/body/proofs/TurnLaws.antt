@@ -14,10 +14,12 @@ use Rattle.layout.specs.declared.turn.Turn.{Turn}
 use Rattle.layout.specs.declared.turn.Turn.the-variants.{Refused, More, Done}
 use Rattle.layout.specs.declared.turn.Judged.the-variants.{Unsound, Sound}
 use Rattle.layout.specs.declared.turn.Run.the-variants.{Ended}
-use Rattle.layout.proofs.Scans.{ended-once}
+use Rattle.layout.proofs.Runs.{ended-once}
 use Rattle.layout.proofs.Heads.{head-sound}
-use Rattle.layout.proofs.Groups.{contents-place, group-sound-is}
-use Rattle.layout.proofs.Bodies.{there-empty, there-unsound, there-sound, turn-end, turn-head, turn-many, turn-unsound, turn-sound, group-more, group-there}
+use Rattle.layout.proofs.GroupPlaces.{contents-place}
+use Rattle.layout.proofs.GroupSound.{group-sound-is}
+use Rattle.layout.proofs.GroupThere.{there-empty, there-unsound, there-sound}
+use Rattle.layout.proofs.Bodies.{turn-end, turn-head, turn-many, turn-unsound, turn-sound, group-more, group-there}
 use Rattle.named.specs.Before.{Places, NamedBefore}
 use Rattle.named.proofs.Marked.{marks-next}
 use Rattle.body.specs.declared.survey.Turned.{Turned}

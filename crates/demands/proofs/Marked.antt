@@ -9,7 +9,8 @@ use Rattle.layout.specs.Ranges.{inside, ranges, outOf, firstOut}
 use Rattle.layout.specs.Records.{bytesOf, badSecond, badByte, firstBad}
 use Rattle.layout.specs.Sdec.{firstName, laterNames, names, soundText, shares}
 use Rattle.layout.specs.Group.{headFault, ctabsOver, ctabAt, ctabTurn, cnttAt, cnttTurn, cnttsOf, ctabsOf, afterCntts, afterCtabs, contents, payload, groupSize, behindHeader, groupAt}
-use Rattle.layout.specs.Body.{groupPlace, textAt, sharing, afterContents, groupTurnAt, groupTurn, bodyRun, bodyRead, ofGroup, textOf}
+use Rattle.layout.specs.Body.{groupPlace, textAt, sharing, afterContents, groupTurnAt, groupTurn, bodyRun, bodyRead}
+use Rattle.layout.specs.Asked.{ofGroup, textOf}
 use Rattle.layout.specs.Style.{noStyle, sectionPlace, sectionTagged, sectionTurnAt, sectionTurn, sectionsRun, casmAmong, casmFound, located}
 use Rattle.layout.specs.Salvage.{cseg, front, pieces, rest, listed, judged, parts, entriesFrom, salvage}
 use Rattle.layout.specs.Plays.{bit, rootMask, chordMask, playsUnder}

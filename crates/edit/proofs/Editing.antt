@@ -10,7 +10,7 @@ use Rattle.layout.specs.declared.record.Record.{Record}
 use Rattle.layout.specs.Answers.{refused, granted, numberOf, placeOf, valueOr, answered}
 use Rattle.layout.specs.Ranges.{firstEdition, ranges, firstOut}
 use Rattle.layout.specs.Records.{bytesOf, channelOf, fileBytes}
-use Rattle.layout.specs.Body.{channelFound}
+use Rattle.layout.specs.Asked.{channelFound}
 use Rattle.layout.specs.Edit.{replaced, firstEdited, edited}
 use Rattle.layout.specs.Promises.{RecordEdited}
 use Rattle.find.specs.declared.row.Sought.the-variants.{Refused as No, At}

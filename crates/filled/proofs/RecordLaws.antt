@@ -11,7 +11,7 @@ use Rattle.layout.specs.declared.record.Record.{Record}
 use Rattle.layout.specs.declared.answer.Counted.{Counted}
 use Rattle.layout.specs.Answers.{Answer, refused, granted, numberOf, placeOf, valueOr, lentAfter, countedAll}
 use Rattle.layout.specs.Group.{recordAt}
-use Rattle.layout.specs.Body.{recordsRead}
+use Rattle.layout.specs.Asked.{recordsRead}
 use Rattle.layout.specs.Promises.{RecordsRead}
 use Rattle.layout.proofs.Lists.{rows-length, rows-last}
 use Rattle.table.specs.declared.Reading.{Reading}

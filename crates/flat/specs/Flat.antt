@@ -5,7 +5,7 @@ use mathlib.Core.List.{List, [], _∷_, _++_, flatMap}
 use lib.ListN.{length, getD, take, drop}
 use Rattle.layout.specs.Lists.{rows}
 use Rattle.layout.specs.Answers.{retold, lentAfter, countedAll}
-use Rattle.layout.specs.Body.{recordsRead}
+use Rattle.layout.specs.Asked.{recordsRead}
 use Rattle.layout.specs.Records.{bytesOf, recordOf}
 use Rattle.layout.specs.declared.record.Record.{Record}
 use Rattle.layout.specs.declared.answer.Counted.{Counted}

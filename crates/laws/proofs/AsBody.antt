@@ -12,9 +12,11 @@ use Rattle.layout.specs.declared.turn.Turn.the-variants.{More, Done}
 use Rattle.layout.specs.Bytes.{four}
 use Rattle.layout.specs.Group.{headFault, groupSize}
 use Rattle.layout.specs.Body.{groupPlace, sharing, groupTurn}
-use Rattle.layout.proofs.Scans.{run-more, run-done}
-use Rattle.layout.proofs.Groups.{cseg-tag, group-sound-is}
-use Rattle.layout.proofs.Bodies.{turn-end, turn-sound, body-within, body-accepted}
+use Rattle.layout.proofs.Runs.{run-more, run-done}
+use Rattle.layout.proofs.Groups.{cseg-tag}
+use Rattle.layout.proofs.GroupSound.{group-sound-is}
+use Rattle.layout.proofs.Bodies.{turn-end, turn-sound}
+use Rattle.layout.proofs.Accepted.{body-within, body-accepted}
 use Rattle.salvage.proofs.Verdicts.{size-some}
 use Rattle.laws.specs.Salvage.{ReadsAsOne, SoundGroup}
 

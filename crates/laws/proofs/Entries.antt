@@ -14,7 +14,8 @@ use Rattle.layout.specs.Salvage.{front, pieces, Part, rest, listed, judged, par
 use Rattle.layout.specs.Lists.{All}
 use Rattle.salvage.proofs.Cseg.{Free, Piece, no-true, no-cseg}
 use Rattle.salvage.proofs.Cut.{front-is-free, pieces-are}
-use Rattle.salvage.proofs.Verdicts.{size-some, size-within, sound-cseg, size-own, sound-own, refusal-some}
+use Rattle.salvage.proofs.Verdicts.{size-some, size-within, sound-cseg, size-own, sound-own}
+use Rattle.salvage.proofs.Numbered.{refusal-some}
 use Rattle.laws.specs.Salvage.{Covers, bytesOf, ReadsAsOne, SoundGroup}
 use Rattle.laws.proofs.Elements.{all-append, all-flatMap, all-so}
 use Rattle.laws.proofs.Joined.{parts-joined}

@@ -9,7 +9,7 @@ use Rattle.layout.specs.Answers.{refused, granted, Span}
 use Rattle.layout.specs.Style.{casmFound}
 use Rattle.layout.specs.declared.turn.Run.the-variants.{Stopped, Ended}
 use Rattle.layout.specs.declared.turn.Judged.the-variants.{Sound}
-use Rattle.layout.proofs.Bodies.{body-accepted, body-place}
+use Rattle.layout.proofs.Accepted.{body-accepted, body-place}
 use Rattle.salvage.proofs.Verdicts.{sound-own}
 use Rattle.style.proofs.PlaceLaws.{casm-place, casm-within}
 

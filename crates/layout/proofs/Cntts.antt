@@ -11,7 +11,7 @@ use Rattle.layout.specs.Scan.{Refused, More, Done, Stopped, Ended}
 use Rattle.layout.specs.Bytes.{word, four, Cntt}
 use Rattle.layout.specs.Ranges.{ranges, outOf, cnttValue}
 use Rattle.layout.specs.Group.{headFault, cnttFault, cnttAt, cnttTurn, cnttsOf}
-use Rattle.layout.proofs.Scans.{run-stopped, run-ended}
+use Rattle.layout.proofs.Runs.{run-stopped, run-ended}
 use Rattle.layout.proofs.Outs.{lows, highs, out-above, out-none, in-range}
 use Rattle.layout.proofs.Heads.{head-sound}
 

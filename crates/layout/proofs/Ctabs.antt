@@ -11,7 +11,8 @@ use Rattle.layout.specs.Scan.{Refused, More, Done, Stopped, Ended}
 use Rattle.layout.specs.Bytes.{word, four, tagged, Ctab, Cntt}
 use Rattle.layout.specs.Ranges.{firstEdition, ranges, outOf, firstOut}
 use Rattle.layout.specs.Group.{headFault, ctabsOver, ctabOf, ctabAt, ctabTurn, ctabsOf}
-use Rattle.layout.proofs.Scans.{first-passed, run-stopped, run-ended}
+use Rattle.layout.proofs.Scans.{first-passed}
+use Rattle.layout.proofs.Runs.{run-stopped, run-ended}
 use Rattle.layout.proofs.Outs.{highs, in-range}
 use Rattle.layout.proofs.Heads.{head-sound}
 

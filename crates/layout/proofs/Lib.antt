@@ -15,3 +15,8 @@ pub mod Groups
 pub mod Sixteen
 pub mod RecordBytes
 pub mod Bodies
+pub mod GroupThere
+pub mod Accepted
+pub mod GroupPlaces
+pub mod GroupSound
+pub mod Runs

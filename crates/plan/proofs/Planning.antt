@@ -19,7 +19,7 @@ use Rattle.layout.specs.Ranges.{firstEdition}
 use Rattle.layout.specs.Records.{blank, channelOf}
 use Rattle.layout.specs.Sdec.{soundText}
 use Rattle.layout.specs.Write.{payloadBytes, groupBytes, recordTurn, recordsRun, groupFrom, written}
-use Rattle.layout.proofs.Scans.{run-end}
+use Rattle.layout.proofs.Runs.{run-end}
 use Rattle.plan.specs.declared.Checked.{Checked}
 use Rattle.plan.specs.declared.Plan.{Plan}
 use Rattle.plan.specs.Chunks.{chunkOf, chunksOf}

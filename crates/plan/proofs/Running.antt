@@ -18,7 +18,7 @@ use Rattle.layout.specs.Scan.{first, run}
 use Rattle.layout.specs.Ranges.{firstEdition}
 use Rattle.layout.specs.Records.{blank, channelOf, firstBad}
 use Rattle.layout.specs.Write.{recordOn, recordTurn}
-use Rattle.layout.proofs.Scans.{run-stop, run-more}
+use Rattle.layout.proofs.Runs.{run-stop, run-more}
 use Rattle.plan.specs.declared.Checked.{Checked}
 use Rattle.plan.specs.Chunks.{chunkOf, chunksOf}
 use Rattle.plan.specs.Checking.{refusedAt, chunksSize, looked, lookedAt}

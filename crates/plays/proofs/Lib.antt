@@ -1,3 +1,5 @@
 pub mod Standing
 pub mod PlayLaws
 pub mod Playing
+pub mod Masks
+pub mod Filled

@@ -18,7 +18,7 @@ use Rattle.layout.specs.Body.{groupPlace, bodyRun, groupValue, groupNo}
 use Rattle.layout.specs.Plays.{bit, rootMask, chordMask, playsUnder, playing}
 use Rattle.layout.proofs.Sixteen.{Channels, group-apart}
 use Rattle.layout.proofs.RecordBytes.{record-channel}
-use Rattle.layout.proofs.Bodies.{body-accepted}
+use Rattle.layout.proofs.Accepted.{body-accepted}
 
 infix 60 _∈_
 -- a is one of the list

@@ -10,12 +10,13 @@ use Rattle.layout.specs.declared.record.Record.{Record}
 use Rattle.layout.specs.declared.turn.Judged.the-variants.{Sound}
 use Rattle.layout.specs.declared.answer.Standing.{Standing}
 use Rattle.layout.specs.Group.{groupAt, ctabChannel, recordAt}
-use Rattle.layout.specs.Body.{groupPlace, standingAt, standing, groupValue, groupNo}
+use Rattle.layout.specs.Body.{groupPlace, groupValue, groupNo}
+use Rattle.layout.specs.Asked.{standingAt, standing}
 use Rattle.layout.specs.Plays.{playsUnder, playing}
 use Rattle.layout.proofs.Lists.{rows-last}
 use Rattle.layout.proofs.Sixteen.{group-sixteen}
 use Rattle.layout.proofs.RecordBytes.{record-channel, record-roots, record-chords, records-there}
-use Rattle.layout.proofs.Bodies.{body-accepted}
+use Rattle.layout.proofs.Accepted.{body-accepted}
 use Rattle.find.proofs.AskLaws.{There}
 use Rattle.plays.specs.PlaysAt.{playsAt, sourceAt, playerAt, playersAt}
 
@@ -66,7 +67,7 @@ module _ (s : List ℕ) (at t n m : ℕ) (sound : groupAt (drop at s) ≡ Sound 
   row = recordAt s (at + 16 + t) (at + 16 + t + 35 * n) m
 
   record-stands : (root type i : ℕ) → Stands s (at + 16 + t) root type row i
-  unfolding playsUnder playsAt sourceAt ctabChannel
+  unfolding playsUnder playsAt ctabChannel
   record-stands root type i =
       (ap (λ (v : ℕ). record { 0 = v }) (record-channel s (at + 16 + t) (at + 16 + t + 35 * n) m i), rw (record-roots s (at + 16 + t) (at + 16 + t + 35 * n) m i, record-chords s (at + 16 + t) (at + 16 + t + 35 * n) m i))
 

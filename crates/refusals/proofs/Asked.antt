@@ -17,7 +17,8 @@ use Rattle.layout.specs.Records.{bytesOf, channelOf}
 use Rattle.layout.specs.Sdec.{names}
 use Rattle.layout.specs.Answers.{Answer, refused, granted, afterRun}
 use Rattle.layout.specs.Group.{ctabOf}
-use Rattle.layout.specs.Body.{groupPlace, textAt, bodyRun, standing, ofGroup, groupFound, groupNamed, ofPart, partFound, Row, rowOf, rowIn, ofChannel, channelFound, groupNo, recordsRead}
+use Rattle.layout.specs.Body.{groupPlace, textAt, bodyRun, groupNo}
+use Rattle.layout.specs.Asked.{standing, ofGroup, groupFound, groupNamed, ofPart, partFound, Row, rowOf, rowIn, ofChannel, channelFound, recordsRead}
 use Rattle.layout.specs.Voice.{voiceSpan, voiceSpanAt}
 use Rattle.layout.specs.Plays.{playing, whoPlays}
 use Rattle.layout.specs.Edit.{firstEdited, edited}

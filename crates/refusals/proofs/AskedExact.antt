@@ -13,7 +13,8 @@ use Rattle.layout.specs.Ranges.{firstEdition, ranges, outOf, firstOut}
 use Rattle.layout.specs.Records.{bytesOf, channelOf}
 use Rattle.layout.specs.Sdec.{names}
 use Rattle.layout.specs.Answers.{Answer, refused, afterRun}
-use Rattle.layout.specs.Body.{groupPlace, textAt, bodyRead, standing, ofGroup, groupFound, groupNamed, ofPart, partFound, Row, rowOf, rowIn, ofChannel, channelFound, groupNo, recordsRead}
+use Rattle.layout.specs.Body.{groupPlace, textAt, bodyRead, groupNo}
+use Rattle.layout.specs.Asked.{standing, ofGroup, groupFound, groupNamed, ofPart, partFound, Row, rowOf, rowIn, ofChannel, channelFound, recordsRead}
 use Rattle.layout.specs.Voice.{voiceSpan}
 use Rattle.layout.specs.Plays.{whoPlays}
 use Rattle.layout.specs.Edit.{firstEdited, edited}

@@ -17,7 +17,8 @@ use Rattle.layout.specs.Sdec.{shares}
 use Rattle.layout.specs.Group.{headFault, groupAt}
 use Rattle.layout.specs.Body.{groupPlace, textAt, sharing, afterContents, groupTurnAt, groupTurn, bodyRun}
 use Rattle.layout.proofs.Scans.{first-passed, first-stands}
-use Rattle.layout.proofs.Bodies.{GroupMore, group-more, group-there, place-next, body-accepted}
+use Rattle.layout.proofs.Bodies.{GroupMore, group-more, group-there, place-next}
+use Rattle.layout.proofs.Accepted.{body-accepted}
 use Rattle.refusals.specs.Heads.{Headed}
 use Rattle.refusals.specs.Body.{GroupRefused, GroupsBefore, BodyRefused, body-over, head-refused, too-many, group-refused, name-again, HasGroups}
 use Rattle.refusals.proofs.Told.{TurnTold, RunTold, JudgedTold, if-told, run-told}

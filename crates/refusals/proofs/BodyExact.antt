@@ -17,8 +17,10 @@ use Rattle.layout.specs.Group.{headFault, groupAt}
 use Rattle.layout.specs.Body.{groupPlace, textAt, sharing, afterContents, groupTurnAt, groupTurn, bodyRun}
 use Rattle.layout.proofs.Scans.{first-none, first-passed}
 use Rattle.layout.proofs.Heads.{head-sound}
-use Rattle.layout.proofs.Groups.{group-sound-is}
-use Rattle.layout.proofs.Bodies.{head-drop, group-there, place-next, body-over, body-within}
+use Rattle.layout.proofs.GroupSound.{group-sound-is}
+use Rattle.layout.proofs.GroupThere.{head-drop}
+use Rattle.layout.proofs.Bodies.{group-there, place-next}
+use Rattle.layout.proofs.Accepted.{body-over, body-within}
 use Rattle.refusals.specs.Heads.{HeadRefused}
 use Rattle.refusals.specs.Body.{GroupStands, Named, GroupsBefore, BodyRefused, head-refused, too-many, group-refused, name-again, HasGroups}
 use Rattle.refusals.specs.Body as body

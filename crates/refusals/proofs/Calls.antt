@@ -13,7 +13,8 @@ use Rattle.layout.specs.declared.answer.Channelled.{Channelled}
 use Rattle.layout.specs.declared.answer.Played.{Played}
 use Rattle.layout.specs.declared.answer.Placed.{Placed}
 use Rattle.layout.specs.Answers.{Answer, refused, granted, numberOf, placeOf, counted, countedAll, named, grouped, spanned}
-use Rattle.layout.specs.Body.{bodyRun, bodyRead, groupFound, partFound, channelFound, channelled, recordsRead}
+use Rattle.layout.specs.Body.{bodyRun, bodyRead}
+use Rattle.layout.specs.Asked.{groupFound, partFound, channelFound, channelled, recordsRead}
 use Rattle.layout.specs.Style.{casmFound, located}
 use Rattle.layout.specs.Plays.{whoPlays, played}
 use Rattle.layout.specs.Voice.{voiceSpan}

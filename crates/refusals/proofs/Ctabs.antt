@@ -15,7 +15,8 @@ use Rattle.layout.specs.Bytes.{word, tagAt, tagged, Sdec, Ctab, Cntt}
 use Rattle.layout.specs.Ranges.{firstEdition, ranges, outOf, firstOut}
 use Rattle.layout.specs.Sdec.{soundText}
 use Rattle.layout.specs.Group.{headFault, ctabsOver, ctabChannel, ctabOf, ctabAt, ctabTurn, ctabsOf}
-use Rattle.layout.proofs.Scans.{first-passed, first-is, run-ended}
+use Rattle.layout.proofs.Scans.{first-passed, first-is}
+use Rattle.layout.proofs.Runs.{run-ended}
 use Rattle.layout.proofs.Seen.{ctab-seen, ctab-unseen}
 use Rattle.layout.proofs.Ctabs.{over-end, over-tag, CtabMore, turn-more, ctab-fits}
 use Rattle.refusals.specs.Heads.{Headed}

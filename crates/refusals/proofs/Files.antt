@@ -12,7 +12,8 @@ use Rattle.layout.specs.declared.turn.Turn.the-variants.{Refused, More, Done}
 use Rattle.layout.specs.declared.turn.Run.the-variants.{Ended}
 use Rattle.layout.specs.Bytes.{word, tagAt, tagged, MThd, MTrk, CASM}
 use Rattle.layout.specs.Style.{noStyle, sectionPlace, sectionTagged, sectionTurnAt, sectionTurn, sectionsRun, casmAmong, casmFound}
-use Rattle.layout.proofs.Scans.{first-passed, first-stands, run-ended}
+use Rattle.layout.proofs.Scans.{first-passed, first-stands}
+use Rattle.layout.proofs.Runs.{run-ended}
 use Rattle.style.specs.Walk.{Walked}
 use Rattle.style.proofs.StyleLaws.{track-within}
 use Rattle.style.proofs.SectionLaws.{hasTag, SectionMore, section-more, walk-start, walk-next}

@@ -8,7 +8,7 @@ use Rattle.layout.specs.declared.answer.Answered.{Answered}
 use Rattle.layout.specs.declared.answer.Counted.{Counted}
 use Rattle.layout.specs.declared.answer.Measured.{Measured}
 use Rattle.layout.specs.Answers.{Answer, refused, granted, numberOf, valueOr, retold, lentAfter, answered, countedAll, measured}
-use Rattle.layout.specs.Body.{recordsRead}
+use Rattle.layout.specs.Asked.{recordsRead}
 use Rattle.layout.specs.Salvage.{Entry, listNumbers, salvaged}
 use Rattle.layout.specs.Write.{written}
 use Rattle.layout.specs.Edit.{edited}

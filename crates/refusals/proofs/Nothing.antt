@@ -15,7 +15,8 @@ use Rattle.layout.specs.declared.answer.Played.{Played}
 use Rattle.layout.specs.declared.answer.Placed.{Placed}
 use Rattle.layout.specs.declared.answer.Changed.{Changed}
 use Rattle.layout.specs.Answers.{Answer, refused, granted, counted, named, nowhere, grouped, Span, nothing, spanned}
-use Rattle.layout.specs.Body.{bodyRead, groupFound, partFound, Row, channelFound, noRow, channelled}
+use Rattle.layout.specs.Body.{bodyRead}
+use Rattle.layout.specs.Asked.{groupFound, partFound, Row, channelFound, noRow, channelled}
 use Rattle.layout.specs.Style.{casmFound, located}
 use Rattle.layout.specs.Plays.{whoPlays, noChannel, inSixteen, played}
 use Rattle.layout.specs.Voice.{voiceSpan}

@@ -10,7 +10,8 @@ use Rattle.layout.specs.declared.answer.Grouped.{Grouped}
 use Rattle.layout.specs.declared.answer.Spanned.{Spanned}
 use Rattle.layout.specs.declared.answer.Standing.{Standing}
 use Rattle.layout.specs.Answers.{Answer, refused, granted, numberOf, afterRun, partOf, grouped, spanned}
-use Rattle.layout.specs.Body.{bodyRun, standing, ofGroup, groupFound, Row, rowIn, rowOf, ofChannel, textOf}
+use Rattle.layout.specs.Body.{bodyRun}
+use Rattle.layout.specs.Asked.{standing, ofGroup, groupFound, Row, rowIn, rowOf, ofChannel, textOf}
 use Rattle.layout.specs.Voice.{trimmed, voiceBytes, voiceName, voiceSpanAt, voiceSpan}
 use Rattle.layout.specs.Promises.{GroupFound, TextShown, VoiceShown, VoiceFound}
 use Rattle.refusals.proofs.Kept.{none-given}

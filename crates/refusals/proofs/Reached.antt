@@ -11,7 +11,8 @@ use Rattle.layout.specs.declared.turn.Turn.the-variants.{Refused, More, Done}
 use Rattle.layout.specs.declared.turn.Run.the-variants.{Stopped, Ended}
 use Rattle.layout.specs.Bytes.{tagAt, tagged}
 use Rattle.layout.specs.Group.{headFault}
-use Rattle.layout.proofs.Scans.{first-is, run-more, run-stop, run-done}
+use Rattle.layout.proofs.Scans.{first-is}
+use Rattle.layout.proofs.Runs.{run-more, run-stop, run-done}
 use Rattle.layout.proofs.Same.{same-itself}
 use Rattle.layout.proofs.Heads.{fault-cut, fault-tag, fault-past, fault-none}
 use Rattle.refusals.specs.Heads.{HeadRefused, header-cut, other-tag, length-past, Headed}

@@ -19,7 +19,8 @@ use Rattle.layout.specs.Salvage.{salvage, listNumbers, salvaged}
 use Rattle.layout.specs.Place.{effective, bypass, notePlaced}
 use Rattle.layout.specs.Write.{groupBytes, recordOn, recordTurn, recordsRun, groupFrom, written}
 use Rattle.layout.specs.Screen.{fieldSet}
-use Rattle.layout.proofs.Scans.{first-none, run-end}
+use Rattle.layout.proofs.Scans.{first-none}
+use Rattle.layout.proofs.Runs.{run-end}
 use Rattle.salvage.proofs.Room.{numbers-length}
 use Rattle.refusals.specs.Records.{FirstBadByte, InRange, PlaceRefused, root-out, note-out, record-byte, root-fixed, RecordsBefore, WriteRefused, count-over, text-broken, table-byte, table-again, buffer-short}
 use Rattle.refusals.specs.Records.{FieldRefused, index-out, value-out, SalvageRefused, list-over, list-short}

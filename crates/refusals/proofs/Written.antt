@@ -16,7 +16,8 @@ use Rattle.layout.specs.Ranges.{firstEdition}
 use Rattle.layout.specs.Records.{blank, channelOf, firstBad}
 use Rattle.layout.specs.Sdec.{soundText}
 use Rattle.layout.specs.Write.{groupBytes, recordOn, recordTurn, recordsRun, groupFrom, written}
-use Rattle.layout.proofs.Scans.{first-passed, first-stands, run-ended}
+use Rattle.layout.proofs.Scans.{first-passed, first-stands}
+use Rattle.layout.proofs.Runs.{run-ended}
 use Rattle.refusals.specs.Records.{FirstBadByte, InRange, RecordsBefore, WriteRefused, count-over, text-broken, table-byte, table-again, buffer-short}
 use Rattle.refusals.proofs.Told.{TurnTold, RunTold, AnswerTold, if-told, run-told, after-told}
 use Rattle.refusals.proofs.Texts.{text-told}

@@ -8,7 +8,8 @@ use Rattle.layout.specs.Refusals.{outOfRange, noRoom, notThere, badNumber}
 use Rattle.layout.specs.Ranges.{firstEdition, ranges, outOf}
 use Rattle.layout.specs.Records.{bytesOf, channelOf}
 use Rattle.layout.specs.Group.{ctabChannel}
-use Rattle.layout.specs.Body.{standing, groupNo}
+use Rattle.layout.specs.Body.{groupNo}
+use Rattle.layout.specs.Asked.{standing}
 use Rattle.layout.specs.Plays.{rootCount, typeCount}
 use Rattle.refusals.specs.Contents.{FirstSuch}
 use Rattle.refusals.specs.Body.{Named, BodyRefused, HasGroups}

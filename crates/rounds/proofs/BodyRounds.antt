@@ -16,7 +16,8 @@ use Rattle.layout.specs.Body.{groupPlace, textAt, sharing, groupTurn, bodyRun, 
 use Rattle.layout.specs.Write.{groupBytes, Allowed}
 use Rattle.layout.proofs.Scans.{first-passed, first-none}
 use Rattle.layout.proofs.Groups.{cseg-tag}
-use Rattle.layout.proofs.Bodies.{turn-end, turn-sound, Accepted, body-within}
+use Rattle.layout.proofs.Bodies.{turn-end, turn-sound}
+use Rattle.layout.proofs.Accepted.{Accepted, body-within}
 use Rattle.rounds.specs.Rounds.{Bytes, groupsOf, BodyAllowed}
 use Rattle.rounds.proofs.Runs.{ran-run}
 use Rattle.layout.proofs.Lists.{rows-length, getD-rows}

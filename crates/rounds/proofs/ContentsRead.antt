@@ -19,7 +19,7 @@ use Rattle.layout.specs.Write.{ctabBytes, payloadBytes, Allowed}
 use Rattle.layout.proofs.Heads.{head-sound}
 use Rattle.layout.proofs.Ctabs.{CtabMore, turn-more}
 use Rattle.layout.proofs.Cntts.{CnttMore, cntt-turn-more}
-use Rattle.layout.proofs.Groups.{Contents}
+use Rattle.layout.proofs.GroupSound.{Contents}
 use Rattle.layout.proofs.Lists.{rows-length, getD-rows}
 use Rattle.layout.proofs.Sixteen.{channels-apart}
 use Rattle.layout.proofs.RecordBytes.{record-channel}

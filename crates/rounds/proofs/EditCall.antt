@@ -9,11 +9,12 @@ use Rattle.layout.specs.declared.record.Record.{Record}
 use Rattle.layout.specs.declared.answer.Answered.{Answered}
 use Rattle.layout.specs.Records.{fileBytes}
 use Rattle.layout.specs.Answers.{granted, valueOr, afterRun, answered}
-use Rattle.layout.specs.Body.{standing, rowIn, rowOf, ofGroup, ofChannel, Row, channelFound, groupNo}
+use Rattle.layout.specs.Body.{groupNo}
+use Rattle.layout.specs.Asked.{standing, rowIn, rowOf, ofGroup, ofChannel, Row, channelFound}
 use Rattle.layout.specs.Write.{Whole}
 use Rattle.layout.specs.Edit.{replaced, edited}
 use Rattle.layout.specs.Promises.{RecordEdited}
-use Rattle.layout.proofs.Bodies.{body-accepted}
+use Rattle.layout.proofs.Accepted.{body-accepted}
 use Rattle.rounds.specs.Rounds.{Bytes, EditRead}
 use Rattle.rounds.specs.Calls.{CtabChanged}
 use Rattle.rounds.proofs.CtabRounds.{length-file}

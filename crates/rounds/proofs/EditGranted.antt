@@ -13,7 +13,8 @@ use Rattle.layout.specs.declared.record.Record.{Record}
 use Rattle.layout.specs.Records.{channelOf, fileBytes}
 use Rattle.layout.specs.Answers.{refused, granted, afterRun}
 use Rattle.layout.specs.declared.answer.Standing.{Standing}
-use Rattle.layout.specs.Body.{bodyRun, standing, rowIn, ofGroup, ofChannel}
+use Rattle.layout.specs.Body.{bodyRun}
+use Rattle.layout.specs.Asked.{standing, rowIn, ofGroup, ofChannel}
 use Rattle.layout.specs.Edit.{replaced, firstEdited, edited}
 use Rattle.rounds.proofs.Granted.{if-granted, granted-once}
 

@@ -9,10 +9,11 @@ use borrow.Author.Tests.{eqb-true}
 use Rattle.layout.specs.Ranges.{firstEdition}
 use Rattle.layout.specs.Records.{blank, channelOf}
 use Rattle.layout.specs.Group.{ctabChannel, ctabOf, Group}
-use Rattle.layout.specs.Body.{groupPlace, standingAt, standing, rowIn, noGroup, groupNo}
+use Rattle.layout.specs.Body.{groupPlace, noGroup, groupNo}
+use Rattle.layout.specs.Asked.{standingAt, standing, rowIn}
 use Rattle.layout.specs.Write.{groupBytes, Allowed}
 use Rattle.layout.proofs.Scans.{first-stands}
-use Rattle.layout.proofs.Bodies.{Accepted}
+use Rattle.layout.proofs.Accepted.{Accepted}
 use Rattle.rounds.specs.Rounds.{Bytes, groupsOf}
 use Rattle.layout.proofs.Lists.{rows-length, getD-rows}
 use Rattle.rounds.proofs.Blocks.{block-place}

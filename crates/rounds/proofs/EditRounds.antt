@@ -9,10 +9,11 @@ use Rattle.layout.specs.declared.record.Record.{Record}
 use Rattle.layout.specs.Records.{channelOf, fileBytes}
 use Rattle.layout.specs.Answers.{granted}
 use Rattle.layout.specs.Group.{Group}
-use Rattle.layout.specs.Body.{groupPlace, bodyRun, standing, rowIn, noGroup, groupNo}
+use Rattle.layout.specs.Body.{groupPlace, bodyRun, noGroup, groupNo}
+use Rattle.layout.specs.Asked.{standing, rowIn}
 use Rattle.layout.specs.Write.{groupBytes, Whole, Allowed}
 use Rattle.layout.specs.Edit.{replaced, edited}
-use Rattle.layout.proofs.Bodies.{Accepted, body-accepted}
+use Rattle.layout.proofs.Accepted.{Accepted, body-accepted}
 use Rattle.rounds.specs.Rounds.{Bytes, groupsOf, BodyAllowed, withRecord, EditRead}
 use Rattle.layout.proofs.Lists.{rows-length}
 use Rattle.layout.proofs.Replaced.{replaced-length, replaced-block}

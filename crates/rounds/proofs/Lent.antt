@@ -9,7 +9,7 @@ use Rattle.layout.specs.declared.record.Record.{Record}
 use Rattle.layout.specs.declared.answer.Counted.{Counted}
 use Rattle.layout.specs.declared.answer.Measured.{Measured}
 use Rattle.layout.specs.Answers.{granted, numberOf, placeOf, valueOr, lentAfter, countedAll, measured}
-use Rattle.layout.specs.Body.{recordsRead}
+use Rattle.layout.specs.Asked.{recordsRead}
 use Rattle.layout.specs.Write.{written}
 use Rattle.layout.specs.Promises.{RecordsRead, GroupWritten}
 use Rattle.rounds.specs.Calls.{accepting}

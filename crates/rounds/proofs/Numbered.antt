@@ -21,12 +21,13 @@ use Rattle.layout.specs.Sdec.{soundText}
 use Rattle.layout.specs.declared.answer.Standing.{Standing}
 use Rattle.layout.specs.Answers.{Answer, refused, granted, numberOf, afterRun}
 use Rattle.layout.specs.Group.{headFault, groupAt}
-use Rattle.layout.specs.Body.{groupPlace, sharing, afterContents, groupTurnAt, groupTurn, bodyRun, standing, ofGroup, rowIn, ofChannel, groupNo, recordsRead}
+use Rattle.layout.specs.Body.{groupPlace, sharing, afterContents, groupTurnAt, groupTurn, bodyRun, groupNo}
+use Rattle.layout.specs.Asked.{standing, ofGroup, rowIn, ofChannel, recordsRead}
 use Rattle.layout.specs.Write.{groupBytes, recordOn, recordTurn, recordsRun, groupFrom, written}
 use Rattle.layout.specs.Edit.{replaced, firstEdited, edited}
 use Rattle.layout.specs.Screen.{fieldSet}
-use Rattle.layout.proofs.Scans.{run-stopped}
-use Rattle.salvage.proofs.Verdicts.{refusal-some}
+use Rattle.layout.proofs.Runs.{run-stopped}
+use Rattle.salvage.proofs.Numbered.{refusal-some}
 
 -- ---- an answer
 

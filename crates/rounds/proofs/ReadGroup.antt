@@ -12,9 +12,10 @@ use Rattle.layout.specs.declared.turn.Run.{Run}
 use Rattle.layout.specs.declared.turn.Run.the-variants.{Stopped, Ended}
 use Rattle.layout.specs.declared.record.Record.{Record}
 use Rattle.layout.specs.Answers.{refused, granted, afterRun, partOf, valueOr}
-use Rattle.layout.specs.Body.{groupPlace, textAt, bodyRun, ofGroup, groupNo, textOf, recordsRead}
+use Rattle.layout.specs.Body.{groupPlace, textAt, bodyRun, groupNo}
+use Rattle.layout.specs.Asked.{ofGroup, textOf, recordsRead}
 use Rattle.layout.specs.Write.{groupBytes, Allowed}
-use Rattle.layout.proofs.Bodies.{body-accepted}
+use Rattle.layout.proofs.Accepted.{body-accepted}
 use Rattle.rounds.specs.Rounds.{Bytes}
 use Rattle.rounds.specs.Calls.{sizeOfGroup, bytesOfGroup}
 use Rattle.rounds.proofs.Granted.{if-granted, granted-once}

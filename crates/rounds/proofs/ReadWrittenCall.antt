@@ -7,7 +7,8 @@ use Rattle.layout.specs.declared.record.Record.{Record}
 use Rattle.layout.specs.declared.answer.Counted.{Counted}
 use Rattle.layout.specs.declared.answer.Measured.{Measured}
 use Rattle.layout.specs.Answers.{granted}
-use Rattle.layout.specs.Body.{groupNo, recordsRead}
+use Rattle.layout.specs.Body.{groupNo}
+use Rattle.layout.specs.Asked.{recordsRead}
 use Rattle.layout.specs.Write.{groupBytes, groupFrom, written}
 use Rattle.layout.specs.Promises.{TextShown, RecordsRead, GroupWritten}
 use Rattle.rounds.specs.Rounds.{Bytes}

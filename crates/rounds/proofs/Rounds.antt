@@ -15,7 +15,7 @@ use Rattle.layout.specs.Body.{bodyRun, groupNo}
 use Rattle.layout.specs.Write.{groupBytes, Whole, Allowed}
 use Rattle.layout.specs.Edit.{edited}
 use Rattle.layout.specs.Screen.{fieldSet}
-use Rattle.layout.proofs.Bodies.{body-accepted}
+use Rattle.layout.proofs.Accepted.{body-accepted}
 use Rattle.rounds.specs.Rounds.{Bytes, groupsOf, GroupRead, BodyAllowed, WrittenAs, EditRead}
 use Rattle.rounds.proofs.RecordBack.{read-bytes, bytes-read, set-alone}
 use Rattle.layout.proofs.Lists.{rows-length}

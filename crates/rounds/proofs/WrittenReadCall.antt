@@ -12,7 +12,8 @@ use Rattle.layout.specs.Lists.{rows}
 use Rattle.layout.specs.Bytes.{CSEG}
 use Rattle.layout.specs.Answers.{granted, numberOf, placeOf, valueOr, afterRun, counted}
 use Rattle.layout.specs.Group.{Group}
-use Rattle.layout.specs.Body.{groupPlace, textAt, bodyRun, bodyRead, noGroup, groupNo, recordsRead}
+use Rattle.layout.specs.Body.{groupPlace, textAt, bodyRun, bodyRead, noGroup, groupNo}
+use Rattle.layout.specs.Asked.{recordsRead}
 use Rattle.layout.specs.Write.{payloadBytes, groupBytes, Allowed, groupFrom}
 use Rattle.layout.specs.Promises.{RecordsRead, GroupWritten}
 use Rattle.rounds.specs.Rounds.{BodyAllowed}

@@ -10,7 +10,8 @@ use Rattle.layout.specs.Ranges.{firstEdition}
 use Rattle.layout.specs.Records.{bytesOf, blank, fileBytes}
 use Rattle.layout.specs.Answers.{granted}
 use Rattle.layout.specs.Group.{groupSize}
-use Rattle.layout.specs.Body.{groupPlace, Row, channelFound}
+use Rattle.layout.specs.Body.{groupPlace}
+use Rattle.layout.specs.Asked.{Row, channelFound}
 use Rattle.layout.specs.Write.{groupBytes, Whole, Allowed, groupFrom}
 use Rattle.layout.specs.Promises.{BodyRead, TextShown, RecordsRead}
 

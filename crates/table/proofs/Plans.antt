@@ -11,10 +11,11 @@ use Rattle.layout.specs.declared.answer.Standing.{Standing}
 use Rattle.layout.specs.Lists.{rows}
 use Rattle.layout.specs.Answers.{refused, granted, numberOf, placeOf, valueOr}
 use Rattle.layout.specs.Group.{recordAt}
-use Rattle.layout.specs.Body.{groupPlace, standingAt, standing, groupNo, recordsRead}
+use Rattle.layout.specs.Body.{groupPlace, groupNo}
+use Rattle.layout.specs.Asked.{standingAt, standing, recordsRead}
 use Rattle.layout.proofs.Lists.{rows-length}
 use Rattle.layout.proofs.RecordBytes.{records-there}
-use Rattle.layout.proofs.Bodies.{body-accepted}
+use Rattle.layout.proofs.Accepted.{body-accepted}
 use Rattle.find.specs.declared.Search.the-variants.{Refused, Missing}
 use Rattle.find.specs.Find.{groupLocated}
 use Rattle.find.proofs.AskLaws.{There, there-within, of-refused, of-missing, of-found}

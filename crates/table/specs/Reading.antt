@@ -6,7 +6,7 @@ use lib.ListN.{length}
 use Rattle.layout.specs.Lists.{rows}
 use Rattle.layout.specs.Answers.{numberOf, placeOf, valueOr}
 use Rattle.layout.specs.Group.{recordAt}
-use Rattle.layout.specs.Body.{recordsRead}
+use Rattle.layout.specs.Asked.{recordsRead}
 use Rattle.layout.specs.declared.answer.Counted.{Counted}
 use Rattle.table.specs.declared.Reading.{Reading}
 

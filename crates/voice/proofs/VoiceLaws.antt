@@ -7,7 +7,7 @@ use lib.ListN.{length, getD, take, drop, length-take, length-drop}
 use lib.Seq.{take-suc, take-take, length-take-le, getD-drop}
 use Rattle.layout.specs.declared.answer.Spanned.{Spanned}
 use Rattle.layout.specs.Answers.{Answer, refused, granted, numberOf, placeOf, valueOr, partOf, Span, nothing, spanned}
-use Rattle.layout.specs.Body.{Row, ofRecord, channelFound}
+use Rattle.layout.specs.Asked.{Row, ofRecord, channelFound}
 use Rattle.layout.specs.Voice.{trimmed, voiceBytes, voiceName, voiceSpanAt, voiceSpan}
 use Rattle.find.specs.declared.row.Sought.{Sought}
 use Rattle.find.specs.declared.row.Sought.the-variants.{Refused as No, At}

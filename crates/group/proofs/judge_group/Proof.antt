@@ -3,7 +3,8 @@ use Prim.Native.Nat.{_+_, _-_}
 use mathlib.Core.Path.{sym, _∙_}
 use native.Mathlib.Omega.{arith}
 use Rattle.layout.proofs.Heads.{head-sound}
-use Rattle.layout.proofs.Groups.{group-head, group-empty, group-unsound, group-sound, part-place}
+use Rattle.layout.proofs.Groups.{group-head, group-empty, group-unsound, group-sound}
+use Rattle.layout.proofs.GroupPlaces.{part-place}
 use borrow.Author.Needs.{needs}
 use Rattle.group.proofs.judge_group.Statement.{statement}
 use Rattle.group.proofs.judge_group.Tie as tie

@@ -1,5 +1,5 @@
 -- The first mask decides where its bit is not set, and else the second.
-use Rattle.plays.proofs.PlayLaws.{root-mask, chord-mask, root-unset, root-set}
+use Rattle.plays.proofs.Masks.{root-mask, chord-mask, root-unset, root-set}
 use borrow.Author.Needs.{needs}
 use Rattle.plays.proofs.is_playing.Statement.{statement}
 use Rattle.plays.proofs.is_playing.Tie as tie

@@ -4,7 +4,7 @@ use mathlib.Core.Path.{sym, _∙_}
 use native.Mathlib.Omega.{arith}
 use borrow.Author.Tests.{not-true, not-false}
 use borrow.Author.Needs.{needs}
-use Rattle.plays.proofs.PlayLaws.{Filled, filled-start, filled-room, filled-passed, filled-more, filled-end}
+use Rattle.plays.proofs.Filled.{Filled, filled-start, filled-room, filled-passed, filled-more, filled-end}
 use Rattle.plays.proofs.players.Statement.{statement}
 use Rattle.plays.proofs.players.Tie as tie
 

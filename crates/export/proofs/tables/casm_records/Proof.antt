@@ -1,7 +1,7 @@
 -- The face's promise on the table of 32, laid out as bytes up to the count.
 use mathlib.Core.Path.{_≡_}
 use lib.ListN.{length}
-use Rattle.flat.proofs.Laid.{count-lent, rows-read}
+use Rattle.flat.proofs.RowsRead.{count-lent, rows-read}
 use borrow.Author.Needs.{needs}
 use Rattle.export.proofs.tables.casm_records.Statement.{statement}
 use Rattle.export.proofs.tables.casm_records.Tie as tie
