@@ -33,6 +33,11 @@ returns c =
 enum-told : tie.Need-enum-told
 enum-told c = search needs
 
+returns-2 : tie.Need-returns-2
+returns-2 c =
+    let start = c .before .before .before .before .before in
+    none-replaced (start .args .out .now) (start .args .at) (start .args .r) (omega (arith, start .pre)) (start .args .seconds) (not-false _ (c .before .before .before .if1 .left)) (c .enum-told .given .1)
+
 enum-known-second : tie.Need-enum-known-second
 enum-known-second c = search needs
 
@@ -48,15 +53,10 @@ part-put-cntt-end c = search needs
 put-cntt-requires : tie.Need-put-cntt-requires
 put-cntt-requires c κs =
     let start = c .before .before .before .before .before .before .before in
-    cntt-fits (start .args .out .now) (start .args .at) (start .args .r) (start .args .seconds) _ (not-false _ (c .before .before .before .before .before .if1 .left)) (c .before .before .second .given .1) (start .pre)
+    cntt-fits (start .args .out .now) (start .args .at) (start .args .r) (start .args .seconds) (c .before .before .second .given .0 .0) (not-false _ (c .before .before .before .before .before .if1 .left)) (c .before .before .second .given .1) (start .pre)
 
 add-result-2 : tie.Need-add-result-2
 add-result-2 c = search needs
-
-returns-2 : tie.Need-returns-2
-returns-2 c =
-    let start = c .before .before .before .before .before in
-    none-replaced (start .args .out .now) (start .args .at) (start .args .r) (omega (arith, start .pre)) (start .args .seconds) (not-false _ (c .before .before .before .if1 .left)) (c .enum-told .given .1)
 
 same-length-2 : tie.Need-same-length-2
 same-length-2 c = search needs
@@ -64,7 +64,7 @@ same-length-2 c = search needs
 returns-3 : tie.Need-returns-3
 returns-3 c =
     let start = c .before .before .before .before .before .before .before .before .before .before in
-    cntt-replaced (start .args .out .now) (start .args .at) (start .args .r) (omega (arith, start .pre)) (start .args .seconds) _ (c .before .before .put-cntt .last .0) (not-false _ (c .before .before .before .before .before .before .before .before .if1 .left)) (c .before .before .before .before .before .second .given .1) (c .before .before .put-cntt .ensures)
+    cntt-replaced (start .args .out .now) (start .args .at) (start .args .r) (omega (arith, start .pre)) (start .args .seconds) (c .before .before .before .before .before .second .given .0 .0) (c .before .before .put-cntt .last .0) (not-false _ (c .before .before .before .before .before .before .before .before .if1 .left)) (c .before .before .before .before .before .second .given .1) (c .before .before .put-cntt .ensures)
 
 pub put-chunk-spec : {M : Type 1} → statement M
 put-chunk-spec =
