@@ -97,6 +97,10 @@ stayed = (stay-none-slice (0 ∷ []) tt (plain (λ _. u8)) yes, (stay-none (λ _
 count-of : (p : Reading) (vs : List Val) → Is P.the-row p vs → p .count < 2 ^ 64
 count-of p vs g = LL.owed P.the-type P′.the-laws p vs g .1 .1 .0 .1
 
+-- before the loop nothing is stored: its count is 0
+none-stored : _≡_ {A = ℕ} 0 0
+none-stored = refl
+
 -- ---- the callees
 module _ {M : Type 1} (𝓤 : URA M) (H : Heap 𝓤) (A : Atoms 𝓤) (mem : Memory → SProp 𝓤) (run : Routine → Fun 𝓤) where
   abbrev Plan : Contract 𝓤
@@ -325,6 +329,7 @@ module _ {M : Type 1} (𝓤 : URA M) (H : Heap 𝓤) (A : Atoms 𝓤) (W : Given
         -- [the body's token; true; what the body owns; the table's token; what the table owns; true; _11; …]
         assigns ! (of-opd ! (load ! (from ! (fld ! refl (stop !))) (look-in ! 20 (sub ! 2 refl (whole !))))) (from ! (stop !)) (init ! 18 refl (tt, record { fits = count-of p _ g })) $
         assigns ! (of-opd ! (lit ! tt)) (from ! (stop !)) (init ! 16 refl (tt, record { fits = lit< tt })) $
+        rewrite ! 16 (λ (i : ℕ). ‵ (fat fullShare (tyInt w64) l₆ 0 (vint w64 i))) none-stored refl $
         move ! (4 ∷ []) $ fsplit ! $ move ! (1 ∷ []) $ fsplit ! $ move ! (6 ∷ []) $ split ! $ move ! (2 ∷ 3 ∷ 0 ∷ []) $ opens-slice ! tt R ys b o $
         -- [the row; the open borrow; obs; auth; true; the table's fact; the body's token; true; what the body owns; true; _11; …]
         keep ! (0 ∷ 6 ∷ 8 ∷ 1 ∷ 2 ∷ 3 ∷ 10 ∷ 11 ∷ 12 ∷ 13 ∷ 14 ∷ 15 ∷ 16 ∷ 17 ∷ 18 ∷ 19 ∷ 20 ∷ 21 ∷ 22 ∷ 23 ∷ 24 ∷ 25 ∷ 26 ∷ 27 ∷ 28 ∷ 29 ∷ 30 ∷ 31 ∷ 32 ∷ 33 ∷ []) $
