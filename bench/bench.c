@@ -282,7 +282,7 @@ static void stacks(void)
     stack("casm_place", note_proved);
     stack("casm_field", field_proved);
     stack("casm_write", write_proved);
-    stack("casm_records (a table of 32 records by value)", records_proved);
+    stack("casm_records", records_proved);
 }
 
 int main(int count, char **words)

@@ -4,9 +4,6 @@ ghost use Rattle.export.specs.Crossing.{measured, counted};
 ghost use Rattle.flat.specs.Flat.{tableOf, RowsRead};
 use crate::answer::Count;
 use crate::answer::Length;
-use flat::put_rows;
-use flat::row_count;
-use flat::unused_table;
 
 // Writes one group at the start of a lent buffer, from its Sdec's text and the first `count` records of a flat table; answers its length.
 #[no_mangle]
@@ -26,15 +23,10 @@ pub extern "C" fn casm_write(text: &[u8], flat: &[u8], count: usize, out: &mut [
 pub extern "C" fn casm_records(body: &[u8], group: usize, flat: &mut [u8]) -> Count
     ensures { λ r. ⌜ RowsRead (now (body .entry)) group (now (flat .entry)) (counted r) (now (flat .exit)) ⌝ }
 {
-    let n = row_count(flat.len());
-    let x = bridge::read_with_room(body, group, unused_table(), n);
-    let table = x.table;
-    let answer = x.answer;
-    let count = answer.count;
-    put_rows(table, count, flat);
+    let x = laid::read_rows(body, group, flat);
     Count {
-        number: answer.number,
-        place: answer.place,
-        count: count,
+        number: x.number,
+        place: x.place,
+        count: x.count,
     }
 }

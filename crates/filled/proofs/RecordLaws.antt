@@ -1,5 +1,5 @@
 -- A lent table that is filled record by record: what it holds after n stores, and what a plan that was carried out has promised.
-use Prim.Native.Nat.{ℕ, suc, _+_, _*_, _≤_, _<_}
+use Prim.Native.Nat.{ℕ, suc, _+_, _≤_, _<_}
 use native.Mathlib.Omega.{arith}
 use native.Mathlib.Numerals.{add-one}
 use mathlib.Core.Path.{_≡_, refl, sym, ap, _∙_}
@@ -9,13 +9,13 @@ use lib.Seq.{drop-cons, set-at, append-snoc}
 use Rattle.layout.specs.Lists.{rows}
 use Rattle.layout.specs.declared.record.Record.{Record}
 use Rattle.layout.specs.declared.answer.Counted.{Counted}
-use Rattle.layout.specs.Answers.{Answer, refused, granted, numberOf, placeOf, valueOr, lentAfter, countedAll}
-use Rattle.layout.specs.Group.{recordAt}
+use Rattle.layout.specs.Answers.{Answer, refused, granted, valueOr, lentAfter}
 use Rattle.layout.specs.Asked.{recordsRead}
 use Rattle.layout.specs.Promises.{RecordsRead}
 use Rattle.layout.proofs.Lists.{rows-length, rows-last}
 use Rattle.table.specs.declared.Reading.{Reading}
-use Rattle.table.specs.Reading.{toldOf, ReadingPlanned}
+use Rattle.table.specs.Reading.{toldOf, planned, ReadingPlanned}
+use Rattle.table.proofs.Plans.{told-answer}
 
 -- ---- n stores into ys, of f 0, f 1, ..
 
@@ -42,10 +42,6 @@ module _ {A : Type 0} (f : ℕ → A) where
 
 -- ---- a plan carried out
 
--- the records that a plan names
-abbrev pub planned : List ℕ → Reading → ℕ → Record
-planned s p i = recordAt s (p .ctabs) (p .cntts) (p .seconds) i
-
 lent : (f : ℕ → Record) (n : ℕ) (ys : List Record) (a : Answer (List Record)) → valueOr [] a ≡ rows f 0 n → filled f n ys ≡ lentAfter a ys
 unfolding valueOr lentAfter
 lent f n ys (refused number place) e =
@@ -56,20 +52,5 @@ lent f n ys (granted xs) e =
     rw (z, e)
 
 pub records-read : (s : List ℕ) (g : ℕ) (ys : List Record) (p : Reading) (r : Counted) → ReadingPlanned s g (length ys) p → r ≡ toldOf p → RecordsRead s g ys r (filled (planned s p) (p .count) ys)
-unfolding countedAll
 records-read s g ys p r h e =
-    let a = recordsRead s g (length ys) in
-    let n : p .count ≡ length (valueOr [] a) = sym (ap length (h .records) ∙ rows-length (planned s p) 0 (p .count)) in
-    record {
-      answer =
-          e
-          ∙ (ap (λ (m : ℕ). record { number = m; place = p .place; count = p .count }) (h .number)
-          ∙ (ap (λ (m : ℕ). record { number = numberOf a; place = m; count = p .count }) (h .place) ∙ ap (λ (m : ℕ). record { number = numberOf a; place = placeOf a; count = m }) n));
-      table = lent (planned s p) (p .count) ys a (h .records);
-    }
-
--- ---- the bounds that carrying it out needs
-
-module _ (s : List ℕ) (g room : ℕ) (p : Reading) (h : ReadingPlanned s g room p) (i : ℕ) (l : i < p .count) where
-  pub planned-within : (p .ctabs + 35 * i + 35 ≤ length s) × (p .cntts + 10 * p .seconds ≤ length s)
-  planned-within = (omega (arith, h .ctabs, l), h .cntts)
+    record { answer = told-answer s g (length ys) p r h e; table = lent (planned s p) (p .count) ys (recordsRead s g (length ys)) (h .records) }

@@ -1,3 +1,1 @@
 pub mod Flats
-pub mod Laid
-pub mod RowsRead

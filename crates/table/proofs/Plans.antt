@@ -1,15 +1,17 @@
 -- What a plan for reading a group's records says: one law for each way out. The records of a group that was found are those that stand where it says.
-use Prim.Native.Nat.{ℕ, _≤_, _<_}
+use Prim.Native.Nat.{ℕ, _+_, _*_, _≤_, _<_}
 use native.Mathlib.Omega.{arith}
-use mathlib.Core.Path.{_≡_, _∙_}
+use mathlib.Core.Path.{_≡_, sym, ap, _∙_}
 use mathlib.Core.Bool.{cond}
-use mathlib.Core.List.{List}
+use mathlib.Core.List.{List, []}
 use lib.Dec.{ltb}
+use lib.ListN.{length}
 use borrow.Author.Tests.{lt-ltb, le-ltb}
 use Rattle.layout.specs.declared.record.Record.{Record}
+use Rattle.layout.specs.declared.answer.Counted.{Counted}
 use Rattle.layout.specs.declared.answer.Standing.{Standing}
 use Rattle.layout.specs.Lists.{rows}
-use Rattle.layout.specs.Answers.{refused, granted, numberOf, placeOf, valueOr}
+use Rattle.layout.specs.Answers.{refused, granted, numberOf, placeOf, valueOr, countedAll}
 use Rattle.layout.specs.Group.{recordAt}
 use Rattle.layout.specs.Body.{groupPlace, groupNo}
 use Rattle.layout.specs.Asked.{standingAt, standing, recordsRead}
@@ -20,7 +22,7 @@ use Rattle.find.specs.declared.Search.the-variants.{Refused, Missing}
 use Rattle.find.specs.Find.{groupLocated}
 use Rattle.find.proofs.AskLaws.{There, there-within, of-refused, of-missing, of-found}
 use Rattle.table.specs.declared.Reading.{Reading}
-use Rattle.table.specs.Reading.{noReading, ReadingPlanned}
+use Rattle.table.specs.Reading.{noReading, toldOf, planned, ReadingPlanned}
 
 -- ---- a group that was found
 
@@ -70,3 +72,20 @@ module _ (s : List ℕ) (g room : ℕ) where
         let q : recordsRead s g room ≡ granted (standRecords s x) = asked ∙ rw (le-ltb room (x .records) h) in
         let w = there-within s g x there in
         record { number = rw q; place = rw q; records = rw q; fits = h; ctabs = w .ctabs; cntts = w .cntts }
+
+-- ---- a plan carried out
+
+-- its answer is that of the question
+pub told-answer : (s : List ℕ) (g room : ℕ) (p : Reading) (r : Counted) → ReadingPlanned s g room p → r ≡ toldOf p → r ≡ countedAll (recordsRead s g room)
+unfolding countedAll
+told-answer s g room p r h e =
+    let a = recordsRead s g room in
+    let n : p .count ≡ length (valueOr [] a) = sym (ap length (h .records) ∙ rows-length (planned s p) 0 (p .count)) in
+    e
+    ∙ (ap (λ (m : ℕ). record { number = m; place = p .place; count = p .count }) (h .number)
+    ∙ (ap (λ (m : ℕ). record { number = numberOf a; place = m; count = p .count }) (h .place) ∙ ap (λ (m : ℕ). record { number = numberOf a; place = placeOf a; count = m }) n))
+
+-- the bounds that carrying it out needs
+module _ (s : List ℕ) (g room : ℕ) (p : Reading) (h : ReadingPlanned s g room p) (i : ℕ) (l : i < p .count) where
+  pub planned-within : (p .ctabs + 35 * i + 35 ≤ length s) × (p .cntts + 10 * p .seconds ≤ length s)
+  planned-within = (omega (arith, h .ctabs, l), h .cntts)

@@ -58,7 +58,8 @@ use Rattle.layout.proofs.record.Record.Laws as T′
 use Rattle.layout.proofs.answer.Counted as Q
 use Rattle.layout.proofs.answer.Counted.Laws as Q′
 use Rattle.table.specs.declared.Reading.{Reading}
-use Rattle.table.specs.Reading.{toldOf, ReadingPlanned}
+use Rattle.table.specs.Reading.{toldOf, planned, ReadingPlanned}
+use Rattle.table.proofs.Plans.{planned-within}
 use Rattle.table.proofs.Reading as P
 use Rattle.table.proofs.Reading.Laws as P′
 use Rattle.table.proofs.plan_records as plan
@@ -73,7 +74,7 @@ use Rattle.table.proofs.counted as count
 use Rattle.table.proofs.counted.Symbol as count-def
 use Rattle.table.proofs.counted.Symbol.{name as #count}
 use Rattle.table.proofs.counted.Met as count-thm
-use Rattle.filled.proofs.RecordLaws.{filled, filled-none, filled-next, filled-length, planned, planned-within, records-read}
+use Rattle.filled.proofs.RecordLaws.{filled, filled-none, filled-next, filled-length, records-read}
 use Rattle.filled.proofs.read_records.Key.{name as #read-records}
 use Rattle.filled.proofs.read_records as read
 use Rattle.filled.proofs.read_records.Statement as stated

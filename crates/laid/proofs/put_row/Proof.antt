@@ -1,9 +1,9 @@
 -- 26 bytes are copied, and the two behind them are stored.
 use native.Mathlib.Omega.{arith}
-use Rattle.flat.proofs.Laid.{row-width, row-stored}
+use Rattle.laid.proofs.Laid.{row-width, row-stored}
 use borrow.Author.Needs.{needs}
-use Rattle.flat.proofs.put_row.Statement.{statement}
-use Rattle.flat.proofs.put_row.Tie as tie
+use Rattle.laid.proofs.put_row.Statement.{statement}
+use Rattle.laid.proofs.put_row.Tie as tie
 
 row-of-requires : tie.Need-row-of-requires
 row-of-requires c κs = search needs
