@@ -20,7 +20,9 @@ same-length : tie.Need-same-length
 same-length c = search needs
 
 returns-2 : tie.Need-returns-2
-returns-2 c = start-put _ _ _ (c .before .before .put-front .last .0) (c .before .before .before .before .before .if1 .left) (c .before .before .put-front .ensures)
+returns-2 c =
+    let a = c .before .before .before .before .before .before .before .before .before .args in
+    start-put (a .text .now) (a .out .now) (a .p) (c .before .before .put-front .last .0) (c .before .before .before .before .before .if1 .left) (c .before .before .put-front .ensures)
 
 pub put-start-spec : {M : Type 1} → statement M
 put-start-spec =
