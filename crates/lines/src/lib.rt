@@ -1,6 +1,7 @@
 // The lines of a script on standard input. The text has room for the longest line and a block of 65,536 characters behind it.
+ghost use mathlib.Core.Path.{_≡_};
 ghost use Prim.Native.Nat.{_+_, _≤_};
-ghost use lib.ListN.{length};
+ghost use lib.ListN.{length, replicate};
 ghost use Rattle.lines.specs.Reading.{InText, Sound, Stepped};
 
 // The most characters that a line may have.
@@ -8,7 +9,9 @@ pub const MOST: usize = 2200000;
 
 pub const TEXT: usize = 2265536;
 
-pub fn text() -> [u8; TEXT] {
+pub fn text() -> [u8; TEXT]
+    ensures { λ r. ⌜ r ≡ replicate 2265536 0 ⌝ }
+{
     [0; TEXT]
 }
 

@@ -1,10 +1,14 @@
 // What is printed waits in `out` and is written where that is full, and at the end. `used` is how much waits; each function answers how much then does.
+ghost use mathlib.Core.Path.{_≡_};
 ghost use Prim.Native.Nat.{_<_};
+ghost use lib.ListN.{replicate};
 ghost use Rattle.script.specs.Printing.{Waits};
 
 pub const OUT: usize = 65536;
 
-pub fn out() -> [u8; OUT] {
+pub fn out() -> [u8; OUT]
+    ensures { λ r. ⌜ r ≡ replicate 65536 0 ⌝ }
+{
     [0; OUT]
 }
 

@@ -3,7 +3,7 @@ mod parts;
 
 ghost use mathlib.Core.Path.{_≡_};
 ghost use Prim.Native.Nat.{_≤_};
-ghost use lib.ListN.{length, take};
+ghost use lib.ListN.{length, take, replicate};
 ghost use Rattle.tokens.specs.Taken.{Held};
 use digits::is_end;
 use parts::parts;
@@ -17,7 +17,9 @@ pub enum Taken {
 // The most bytes that BYTES may be, and all the room for them.
 pub const ROOM: usize = 1048577;
 
-pub fn room() -> [u8; ROOM] {
+pub fn room() -> [u8; ROOM]
+    ensures { λ r. ⌜ r ≡ replicate 1048577 0 ⌝ }
+{
     [0; ROOM]
 }
 
