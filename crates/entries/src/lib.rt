@@ -1,5 +1,10 @@
 // The lent list of the salvage call, three numbers an entry (place, length, kind), and printing it: for the programs `list` and `calls`.
+ghost use mathlib.Core.Path.{_≡_};
 ghost use Prim.Native.Nat.{_≤_, _<_};
+ghost use mathlib.Core.List.{_++_};
+ghost use lib.Dec.{eqb};
+ghost use lib.ListN.{take, drop, replicate};
+ghost use Rattle.layout.specs.Lists.{every};
 ghost use Rattle.script.specs.Printing.{Waits};
 use script::print::OUT;
 use script::print::put;
@@ -8,17 +13,21 @@ use script::print::put_digits;
 // Three numbers for each of 8,192 entries, enough for any body.
 pub const LIST: usize = 24576;
 
-pub fn list() -> [usize; LIST] {
+pub fn list() -> [usize; LIST]
+    ensures { λ r. ⌜ r ≡ replicate 24576 0 ⌝ }
+{
     [0; LIST]
 }
 
 // The first n numbers are made 7, so that what a call leaves alone can be seen.
 pub fn blank(list: &mut [usize; LIST], n: usize)
     requires { ⌜ n ≤ 24576 ⌝ }
+    ensures { λ _. ⌜ now (list .exit) ≡ replicate n 7 ++ drop n (now (list .entry)) ⌝ }
 {
+    let numbers: &mut [usize] = list;
     let mut k: usize = 0;
     while k < n {
-        list[k] = 7;
+        numbers[k] = 7;
         k += 1;
     }
 }
@@ -26,10 +35,12 @@ pub fn blank(list: &mut [usize; LIST], n: usize)
 // Whether the numbers from `from` up to n still are 7.
 pub fn is_kept(list: &[usize; LIST], from: usize, n: usize) -> bool
     requires { ⌜ n ≤ 24576 ⌝ }
+    ensures { λ r. ⌜ r ≡ every (λ x. eqb x 7) (drop from (take n (now (list .entry)))) ⌝ }
 {
+    let numbers: &[usize] = list;
     let mut k: usize = from;
     while k < n {
-        if list[k] != 7 {
+        if numbers[k] != 7 {
             return false;
         }
         k += 1;
