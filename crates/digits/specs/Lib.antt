@@ -1,1 +1,4 @@
 pub mod Numbered
+pub mod Ends
+pub mod Decimals
+pub mod Pairs

@@ -1,19 +1,25 @@
--- A store keeps the length of the room; what falls is how much is left.
-use mathlib.Core.Path.{_≡_}
+-- The bytes from `from` up to i repeat those before; what falls is how much is left.
 use Prim.Native.Nat.{_-_, _≤_}
-use lib.ListN.{length}
+use mathlib.Core.Path.{_≡_, refl, _∙_}
+use native.Mathlib.Omega.{arith}
+use lib.ListN.{length, length-set}
+use Rattle.digits.specs.Pairs.{again}
+use Rattle.digits.proofs.Laid.{laid, laid-none, laid-again}
 use borrow.Author.Needs.{needs}
 use Rattle.digits.proofs.repeat.Statement.{statement}
 use Rattle.digits.proofs.repeat.Tie as tie
 
 abbrev Inv-loop : tie.InvT-loop
-Inv-loop room₀ count from end i₀ room i = (from ≤ i) × (length room ≡ length room₀)
+Inv-loop room₀ count from end i₀ room i = (from ≤ i) × ((i - from ≤ end - from) × ((length room ≡ length room₀) × (room ≡ laid (again room₀ count from) from (i - from) room₀)))
 
 abbrev μ-loop : tie.MeasureT-loop
 μ-loop room₀ count from end i₀ room i = end - i
 
 loop-holds : tie.Need-loop-holds Inv-loop μ-loop
-loop-holds c = search needs
+loop-holds c =
+    let a = c .args in
+    let z : a .from - a .from ≡ 0 = omega arith in
+    (omega arith, (omega arith, (refl, rw z (laid-none (again (a .room .now) (a .count) (a .from)) (a .from) (a .room .now)))))
 
 sub-room : tie.Need-sub-room Inv-loop μ-loop
 sub-room c = search needs
@@ -31,13 +37,21 @@ loop-less : tie.Need-loop-less Inv-loop μ-loop
 loop-less c = search needs
 
 loop-again : tie.Need-loop-again Inv-loop μ-loop
-loop-again c = search needs
+loop-again c =
+    let l = c .before .before .loop in
+    let a = c .before .before .before .args in
+    let e = l .inv .1 .1 in
+    (omega arith, (omega arith, (length-set (l .room) (l .i) _ ∙ e .0, laid-again (a .count) (a .from) (l .i) (a .room .now) (l .room) (omega arith) (omega arith) (omega arith) (e .1))))
 
 same-length : tie.Need-same-length Inv-loop μ-loop
 same-length c = search needs
 
 returns : tie.Need-returns Inv-loop μ-loop
-returns c = search needs
+returns c =
+    let l = c .before .loop in
+    let a = c .before .before .args in
+    let z : l .i - a .from ≡ a .end - a .from = omega arith in
+    rw (← z) (l .inv .1 .1 .1)
 
 pub repeat-spec : {M : Type 1} → statement M
 repeat-spec =

@@ -1,19 +1,24 @@
--- A store keeps the length of the room; what falls is how many pairs are left.
-use mathlib.Core.Path.{_≡_}
+-- After i turns the first i pairs lie from `to` on; what falls is how many are left.
 use Prim.Native.Nat.{_-_, _≤_}
-use lib.ListN.{length}
+use mathlib.Core.Path.{_≡_, refl, _∙_}
+use native.Mathlib.Omega.{arith}
+use lib.ListN.{length, length-set}
+use Rattle.digits.specs.Pairs.{pairAt}
+use Rattle.digits.proofs.Laid.{laid, laid-none, laid-next, pair-at}
 use borrow.Author.Needs.{needs}
 use Rattle.digits.proofs.store_pairs.Statement.{statement}
 use Rattle.digits.proofs.store_pairs.Tie as tie
 
 abbrev Inv-loop : tie.InvT-loop
-Inv-loop line at count room₀ to i₀ room i = (i ≤ count) × (length room ≡ length room₀)
+Inv-loop line at count room₀ to i₀ room i = (i ≤ count) × ((length room ≡ length room₀) × (room ≡ laid (pairAt line at) to i room₀))
 
 abbrev μ-loop : tie.MeasureT-loop
 μ-loop line at count room₀ to i₀ room i = count - i
 
 loop-holds : tie.Need-loop-holds Inv-loop μ-loop
-loop-holds c = search needs
+loop-holds c =
+    let a = c .before .before .args in
+    (omega arith, (refl, laid-none (pairAt (a .line .now) (a .at)) (a .to) (a .room .now)))
 
 mul-byte-of : tie.Need-mul-byte-of Inv-loop μ-loop
 mul-byte-of c = search needs
@@ -52,13 +57,21 @@ loop-less : tie.Need-loop-less Inv-loop μ-loop
 loop-less c = search needs
 
 loop-again : tie.Need-loop-again Inv-loop μ-loop
-loop-again c = search needs
+loop-again c =
+    let l = c .before .before .before .before .loop in
+    let a = c .before .before .before .before .before .before .before .args in
+    let e = l .inv .1 in
+    let v = pair-at (a .line .now) (a .at) (l .i) _ (c .byte-of .ensures) in
+    (omega arith, (length-set (l .room) _ _ ∙ e .0, laid-next (pairAt (a .line .now) (a .at)) (a .to) (l .i) (a .room .now) (l .room) (omega arith) (e .1) _ v))
 
 same-length : tie.Need-same-length Inv-loop μ-loop
 same-length c = search needs
 
 returns : tie.Need-returns Inv-loop μ-loop
-returns c = search needs
+returns c =
+    let l = c .before .loop in
+    let z : l .i ≡ c .before .before .before .before .args .count = omega arith in
+    rw (← z) (l .inv .1 .1)
 
 pub store-pairs-spec : {M : Type 1} → statement M
 store-pairs-spec =

@@ -29,7 +29,7 @@ is-end-requires c κs = search needs
 
 returns-3 : tie.Need-returns-3
 returns-3 c =
-    let h = subst (Numbered _ _) (c .before .before .before .value .given .1) (c .before .before .before .before .before .decimal .ensures) in
+    let h = subst (Numbered _ _) (c .before .before .before .value .given .1) (c .before .before .before .before .before .decimal .ensures .1) in
     omega (arith, h)
 
 enum-told : tie.Need-enum-told

@@ -47,7 +47,7 @@ enum-known-times c = search needs
 
 spread-requires-3 : tie.Need-spread-requires-3
 spread-requires-3 c κs =
-    let h = subst (Numbered _ _) (c .before .before .times .given .1) (c .before .before .before .before .decimal .ensures) in
+    let h = subst (Numbered _ _) (c .before .before .times .given .1) (c .before .before .before .before .decimal .ensures .1) in
     ((omega arith, h .0), (omega (arith, h), h .1 .1, omega arith))
 
 enum-told : tie.Need-enum-told
