@@ -1,6 +1,8 @@
 // Numbers as tokens of a script's line. A token stands after one space and ends at a space or at the line's end.
+ghost use mathlib.Core.Path.{_≡_};
 ghost use lib.ListN.{length};
 ghost use Rattle.digits.specs.Numbered.{Numbered};
+ghost use Rattle.numbers.specs.After.{numberAfter, twoAfter, tailAfter, pairAfter};
 use digits::Number;
 use digits::decimal;
 use digits::is_end;
@@ -25,6 +27,7 @@ pub enum Pair {
 
 // The number that stands after the token that ends at `at`.
 pub fn take_number(line: &[u8], at: usize) -> Number
+    ensures { λ r. ⌜ r ≡ numberAfter (now (line .entry)) at ⌝ }
     ensures { λ r. ⌜ Numbered at (length (now (line .entry))) r ⌝ }
 {
     if at >= line.len() {
@@ -45,7 +48,9 @@ pub fn take_number(line: &[u8], at: usize) -> Number
 }
 
 // The two numbers that stand after the token that ends at `at`.
-pub fn take_two(line: &[u8], at: usize) -> Two {
+pub fn take_two(line: &[u8], at: usize) -> Two
+    ensures { λ r. ⌜ r ≡ twoAfter (now (line .entry)) at ⌝ }
+{
     let Number::Is(one, end) = take_number(line, at) else {
         return Two::Bad;
     };
@@ -56,7 +61,9 @@ pub fn take_two(line: &[u8], at: usize) -> Two {
 }
 
 // The same with the line's end behind them and the second up to 255.
-pub fn take_tail(line: &[u8], at: usize) -> Tail {
+pub fn take_tail(line: &[u8], at: usize) -> Tail
+    ensures { λ r. ⌜ r ≡ tailAfter (now (line .entry)) at ⌝ }
+{
     let Two::Are(one, two, last) = take_two(line, at) else {
         return Tail::Bad;
     };
@@ -70,7 +77,9 @@ pub fn take_tail(line: &[u8], at: usize) -> Tail {
 }
 
 // The same where both are up to 255.
-pub fn take_pair(line: &[u8], at: usize) -> Pair {
+pub fn take_pair(line: &[u8], at: usize) -> Pair
+    ensures { λ r. ⌜ r ≡ pairAfter (now (line .entry)) at ⌝ }
+{
     let Tail::Is(one, two) = take_tail(line, at) else {
         return Pair::Bad;
     };

@@ -1,19 +1,20 @@
--- What the digits' number keeps to, at the number that was bound.
-use mathlib.Core.Path.{subst}
+-- Each way out is a case of the definition; what the digits' number keeps to holds at the number that was bound.
+use mathlib.Core.Path.{sym, subst, _∙_}
 use native.Mathlib.Omega.{arith}
 use Rattle.digits.specs.Numbered.{Numbered}
+use Rattle.numbers.proofs.Ways.{past-end, no-space, no-number, no-token, a-token}
 use borrow.Author.Needs.{needs}
 use Rattle.numbers.proofs.take_number.Statement.{statement}
 use Rattle.numbers.proofs.take_number.Tie as tie
 
 returns : tie.Need-returns
-returns c = search needs
+returns c = (sym (past-end _ _ (c .if1 .taken)), tt)
 
 shared-slice-read-if2 : tie.Need-shared-slice-read-if2
 shared-slice-read-if2 c = search needs
 
 returns-2 : tie.Need-returns-2
-returns-2 c = search needs
+returns-2 c = (sym (no-space _ _ (c .if2 .taken)), tt)
 
 add-decimal : tie.Need-add-decimal
 add-decimal c = search needs
@@ -29,17 +30,24 @@ is-end-requires c κs = search needs
 
 returns-3 : tie.Need-returns-3
 returns-3 c =
-    let h = subst (Numbered _ _) (c .before .before .before .value .given .1) (c .before .before .before .before .before .decimal .ensures .1) in
-    omega (arith, h)
+    let v = c .before .before .before in
+    let d = v .before .before in
+    let h = subst (Numbered _ _) (v .value .given .1) (d .decimal .ensures .1) in
+    (sym (a-token _ _ (d .before .if2 .left) _ _ (sym (d .decimal .ensures .0) ∙ v .value .given .1) (sym (c .before .is-end .ensures) ∙ c .if3 .taken)), (omega (arith, h), (omega (arith, h), omega (arith, h))))
 
 enum-told : tie.Need-enum-told
 enum-told c = search needs
 
 returns-4 : tie.Need-returns-4
-returns-4 c = search needs
+returns-4 c =
+    let v = c .before .before .before in
+    let d = v .before .before in
+    (sym (no-token _ _ (d .before .if2 .left) _ _ (sym (d .decimal .ensures .0) ∙ v .value .given .1) (sym (c .before .is-end .ensures) ∙ c .if3 .left)), tt)
 
 returns-5 : tie.Need-returns-5
-returns-5 c = search needs
+returns-5 c =
+    let d = c .before .before in
+    (sym (no-number _ _ (d .before .if2 .left) (sym (d .decimal .ensures .0) ∙ c .enum-told .given .1)), tt)
 
 pub take-number-spec : {M : Type 1} → statement M
 take-number-spec =
