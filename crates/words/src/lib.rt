@@ -1,12 +1,16 @@
 // The words of a script's line that are no values: the verb that it begins with, and where a REC ends.
 pub mod rec;
 
+ghost use mathlib.Core.Path.{_≡_};
 ghost use Prim.Native.Nat.{_≤_};
-ghost use lib.ListN.{length};
+ghost use lib.ListN.{length, take};
+ghost use Rattle.layout.specs.Lists.{same as sameList};
+ghost use Rattle.words.specs.Verbs.{verbEnd, recordVerbs, verbs, numberIn};
 use check::same;
 
 // The place where the line's first token ends.
 pub fn verb_end(line: &[u8]) -> usize
+    ensures { λ r. ⌜ r ≡ verbEnd (now (line .entry)) ⌝ }
     ensures { λ r. ⌜ r ≤ length (now (line .entry)) ⌝ }
 {
     let mut i = 0;
@@ -21,6 +25,7 @@ pub fn verb_end(line: &[u8]) -> usize
 
 fn is_verb(line: &[u8], at: usize, verb: &[u8]) -> bool
     requires { ⌜ at ≤ length (now line) ⌝ }
+    ensures { λ r. ⌜ r ≡ sameList (take at (now (line .entry))) (now (verb .entry)) ⌝ }
 {
     same(&line[0..at], verb)
 }
@@ -49,6 +54,7 @@ pub const SCREEN: u8 = 10;
 // The number of the verb that ends at `at` where it reads, writes or changes records, or 0.
 fn record_verb_of(line: &[u8], at: usize) -> u8
     requires { ⌜ at ≤ length (now line) ⌝ }
+    ensures { λ r. ⌜ r ≡ numberIn (take at (now (line .entry))) 7 recordVerbs ⌝ }
 {
     if is_verb(line, at, b"group") {
         return GROUP;
@@ -68,6 +74,7 @@ fn record_verb_of(line: &[u8], at: usize) -> u8
 // The number of the verb that ends at `at`, or 0 where it is none.
 pub fn verb_of(line: &[u8], at: usize) -> u8
     requires { ⌜ at ≤ length (now line) ⌝ }
+    ensures { λ r. ⌜ r ≡ numberIn (take at (now (line .entry))) 1 verbs ⌝ }
 {
     if is_verb(line, at, b"find") {
         return FIND;
