@@ -1,9 +1,12 @@
 // Records in a script's line, each as REC (`words::rec`): one and several, taken and printed.
 pub mod rows;
 
+ghost use mathlib.Core.Path.{_≡_};
 ghost use Prim.Native.Nat.{_+_, _≤_, _<_};
 ghost use lib.ListN.{length};
+ghost use Rattle.digits.specs.Pairs.{pairAt};
 ghost use Rattle.script.specs.Printing.{Waits};
+ghost use Rattle.records.specs.Taken.{secondAt, recAt};
 use casm::bytes::bytes_of;
 use casm::bytes::record_of;
 use digits::store_pairs;
@@ -16,6 +19,7 @@ use script::print::put_bytes;
 // The one pair that starts at `at`.
 fn pair_at(line: &[u8], at: usize) -> u8
     requires { ⌜ at + 2 ≤ length (now line) ⌝ }
+    ensures { λ r. ⌜ r ≡ pairAt (now (line .entry)) at 0 ⌝ }
 {
     let mut pair = [0u8; 1];
     store_pairs(line, at, 1, &mut pair, 0);
@@ -25,6 +29,7 @@ fn pair_at(line: &[u8], at: usize) -> u8
 // The Cntt value that starts at `at`.
 fn second_at(line: &[u8], at: usize) -> SecondTable
     requires { ⌜ at < length (now line) ⌝ }
+    ensures { λ r. ⌜ r ≡ secondAt (now (line .entry)) at ⌝ }
 {
     if line[at] == b'-' {
         return SecondTable::Absent;
@@ -36,7 +41,9 @@ fn second_at(line: &[u8], at: usize) -> SecondTable
 }
 
 // The record of the REC that stands after the token that ends at `at`. Where the line is too short for one, every byte is 0.
-pub fn record_at(line: &[u8], at: usize) -> Record {
+pub fn record_at(line: &[u8], at: usize) -> Record
+    ensures { λ r. ⌜ r ≡ recAt (now (line .entry)) at ⌝ }
+{
     let mut bytes = [0u8; 26];
     if line.len() < 55 {
         return record_of(bytes, SecondTable::Absent);

@@ -1,5 +1,6 @@
 // The records at the end of a line, and the records of a table, printed.
 ghost use Rattle.script.specs.Printing.{Waits};
+ghost use Rattle.records.specs.Taken.{RowsTaken};
 use crate::put_record;
 use crate::record_at;
 use layout::record::Record;
@@ -14,7 +15,9 @@ pub struct Rows {
 }
 
 // The records that stand after the token that ends at `at`, up to the line's end.
-pub fn take_records(line: &[u8], at: usize) -> Rows {
+pub fn take_records(line: &[u8], at: usize) -> Rows
+    ensures { λ r. ⌜ RowsTaken (now (line .entry)) at r ⌝ }
+{
     let mut records = [record_at(line, at); 32];
     let mut from = at;
     let mut n: usize = 0;
