@@ -45,10 +45,10 @@ module _ (b : ℕ) where
       go (yes h) = absurd (false≢true (sym (digit-high h) ∙ e))
       go (no h) = omega arith
 
-  letter-small : letter b ≡ true → b - 87 ≤ 15
+  letter-small : letter b ≡ true → b - 97 + 10 ≤ 15
   letter-small e = go (decLt 102 b)
     where
-      go : Dec (102 < b) → b - 87 ≤ 15
+      go : Dec (102 < b) → b - 97 + 10 ≤ 15
       go (yes h) = absurd (false≢true (sym (letter-high h) ∙ e))
       go (no h) = omega arith
 
@@ -79,7 +79,7 @@ module _ (b : ℕ) where
 
   pub hex-letter : 97 ≤ b → b ≤ 102 → cond (isHex b) (hexOf b) 16 ≡ b - 87
   unfolding isHex hexOf
-  hex-letter h l = rw (digit-high (omega arith), letter-yes h l)
+  hex-letter h l = rw (digit-high (omega arith), letter-yes h l) (omega arith)
 
   pub above-hex : 102 < b → cond (isHex b) (hexOf b) 16 ≡ 16
   unfolding isHex
@@ -106,7 +106,7 @@ module _ (b : ℕ) where
   unfolding isHex hexOf
   hex-small e = go (isDigit b) refl (letter b) refl
     where
-      go : (t : Bool) → isDigit b ≡ t → (u : Bool) → letter b ≡ u → cond (isDigit b) (b - 48) (cond (letter b) (b - 87) 0) ≤ 15
+      go : (t : Bool) → isDigit b ≡ t → (u : Bool) → letter b ≡ u → cond (isDigit b) (b - 48) (cond (letter b) (b - 97 + 10) 0) ≤ 15
       go true q u p = let w = digit-small q in rw q (omega arith)
       go false q true p = let w = letter-small p in rw (q, p) (omega arith)
       go false q false p = rw (q, p) (omega arith)
@@ -115,7 +115,7 @@ module _ (b : ℕ) where
   unfolding isHex hexOf
   no-hex-worth e = go (isDigit b) refl (letter b) refl
     where
-      go : (t : Bool) → isDigit b ≡ t → (u : Bool) → letter b ≡ u → cond (isDigit b) (b - 48) (cond (letter b) (b - 87) 0) ≡ 0
+      go : (t : Bool) → isDigit b ≡ t → (u : Bool) → letter b ≡ u → cond (isDigit b) (b - 48) (cond (letter b) (b - 97 + 10) 0) ≡ 0
       go true q u p = absurd (false≢true (sym e ∙ rw q))
       go false q true p = absurd (false≢true (sym e ∙ rw (q, p)))
       go false q false p = rw (q, p)

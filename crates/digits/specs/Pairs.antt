@@ -14,7 +14,7 @@ isHex b = isDigit b || inside (0x61 to 0x66) b
 
 -- what a hex digit is worth; any other character counts 0
 unfoldable pub hexOf : ℕ → ℕ
-hexOf b = cond (isDigit b) (b - 0x30) (cond (inside (0x61 to 0x66) b) (b - 87) 0)
+hexOf b = cond (isDigit b) (b - 0x30) (cond (inside (0x61 to 0x66) b) (b - 0x61 + 10) 0)
 
 -- no hex digit stands at i
 unfoldable pub noHex : List ℕ → ℕ → Bool

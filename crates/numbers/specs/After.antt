@@ -34,7 +34,7 @@ unfoldable pub withNext : List ℕ → Number → Two
 withNext line (number.Is value end) = both value (numberAfter line end)
 withNext line number.Bad = two.Bad
 
--- two numbers
+-- two numbers after `at`
 unfoldable pub twoAfter : List ℕ → ℕ → Two
 twoAfter line at = withNext line (numberAfter line at)
 
@@ -43,6 +43,7 @@ unfoldable pub ending : List ℕ → Two → Tail
 ending line (two.Are a b end) = cond (eqb end (length line) && leb b 255) (tail.Is a b) tail.Bad
 ending line two.Bad = tail.Bad
 
+-- two such numbers after `at`
 unfoldable pub tailAfter : List ℕ → ℕ → Tail
 tailAfter line at = ending line (twoAfter line at)
 
@@ -51,5 +52,6 @@ unfoldable pub bytes : Tail → Pair
 bytes (tail.Is a b) = cond (leb a 255) (pair.Are a b) pair.Bad
 bytes tail.Bad = pair.Bad
 
+-- two bytes after `at`, up to the line's end
 unfoldable pub pairAfter : List ℕ → ℕ → Pair
 pairAfter line at = bytes (tailAfter line at)
