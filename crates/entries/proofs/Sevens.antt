@@ -9,7 +9,7 @@ use lib.ListN.{length, getD, take, drop, set, replicate, length-replicate, repli
 use lib.Seq.{length-take-le, drop-cons, append-snoc, set-at, getD-take}
 use borrow.Author.Tests.{eq-eqb, ne-eqb}
 use Rattle.layout.specs.Lists.{every}
-use Rattle.kept.proofs.Kept.{every-next, every-fails, every-end}
+use Rattle.layout.proofs.Every.{every-next, every-fails, every-end}
 
 -- one more is made 7
 pub filled-next : (old l : List ℕ) (k : ℕ) → k < length old → l ≡ replicate k 7 ++ drop k old → set l k 7 ≡ replicate (k + 1) 7 ++ drop (k + 1) old

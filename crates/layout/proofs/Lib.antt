@@ -20,3 +20,4 @@ pub mod Accepted
 pub mod GroupPlaces
 pub mod GroupSound
 pub mod Runs
+pub mod Every

@@ -5,7 +5,7 @@ use native.Mathlib.Omega.{arith}
 use lib.ListN.{length, drop}
 use Rattle.layout.specs.Lists.{every}
 use Rattle.blanks.specs.Blanks.{isBlank}
-use Rattle.kept.proofs.Kept.{every-next, every-fails, every-end}
+use Rattle.layout.proofs.Every.{every-next, every-fails, every-end}
 use borrow.Author.Needs.{needs}
 use borrow.Author.Tests.{not-true, not-false}
 use Rattle.blanks.proofs.is_kept.Statement.{statement}

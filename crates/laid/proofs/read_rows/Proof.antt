@@ -1,5 +1,5 @@
 -- After i turns the first i records that the plan names lie at the start, and the bytes behind them are as they were.
-use Prim.Native.Nat.{_-_, _+_, _≤_}
+use Prim.Native.Nat.{_-_, _≤_}
 use native.Mathlib.Omega.{arith}
 use mathlib.Core.Path.{_≡_, refl}
 use lib.ListN.{length}
