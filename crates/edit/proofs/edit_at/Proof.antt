@@ -28,7 +28,7 @@ answer-requires-2 c κs = search needs
 returns-2 : tie.Need-returns-2
 unfolding channelOf
 returns-2 c =
-    at-out _ _ _ _ (c .before .before .before .before .before .if1 .left) _ (c .before .before .before .before .bytes-of .ensures) _ (c .before .before .first-out .ensures) _ (c .answer2 .ensures) (c .before .if2 .taken)
+    at-out _ _ _ _ (c .before .before .before .before .before .if1 .left) _ (c .before .before .before .before .bytes-of .ensures) _ (c .before .before .first-out .ensures) _ (c .answer2 .ensures) (omega (arith, c .before .if2 .taken))
 
 sub-put-record : tie.Need-sub-put-record
 sub-put-record c = search needs
@@ -53,7 +53,7 @@ unfolding channelOf
 returns-3 c =
     let e = c .before .before .before .before .before in
     let start = c .before .before .before .before .before .before .before .before .before .before .before .before .before .before in
-    at-put _ _ _ _ (e .before .before .before .before .if1 .left) _ (e .before .before .before .bytes-of .ensures) _ (e .before .first-out .ensures) _ (c .before .before .before .put-record .last .0) (c .answer3 .ensures) (e .if2 .left) (omega (arith, start .pre)) (c .before .before .before .put-record .ensures)
+    at-put _ _ _ _ (e .before .before .before .before .if1 .left) _ (e .before .before .before .bytes-of .ensures) _ (e .before .first-out .ensures) _ (c .before .before .before .put-record .last .0) (c .answer3 .ensures) (omega (arith, e .if2 .left)) (omega (arith, start .pre)) (c .before .before .before .put-record .ensures)
 
 pub edit-at-spec : {M : Type 1} → statement M
 edit-at-spec =
