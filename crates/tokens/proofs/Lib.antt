@@ -1,2 +1,4 @@
 pub mod Products
 pub mod Sooner
+pub mod Spreads
+pub mod Joins

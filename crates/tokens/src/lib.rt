@@ -2,9 +2,8 @@
 mod parts;
 
 ghost use mathlib.Core.Path.{_≡_};
-ghost use Prim.Native.Nat.{_≤_};
-ghost use lib.ListN.{length, take, replicate};
-ghost use Rattle.tokens.specs.Taken.{Held};
+ghost use lib.ListN.{take, replicate};
+ghost use Rattle.tokens.specs.Parts.{BytesTaken};
 use digits::is_end;
 use parts::parts;
 
@@ -36,7 +35,7 @@ pub fn first(room: &[u8; ROOM], count: usize) -> &[u8]
 
 // The BYTES that stand after the token that ends at `at`, put into the room from its start.
 pub fn take_bytes(line: &[u8], at: usize, room: &mut [u8; ROOM]) -> Taken
-    ensures { λ r. ⌜ Held at (length (now (line .entry))) r ⌝ }
+    ensures { λ r. ⌜ BytesTaken (now (line .entry)) at (now (room .entry)) r (now (room .exit)) ⌝ }
 {
     if at >= line.len() {
         return Taken::Bad;

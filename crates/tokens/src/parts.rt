@@ -1,7 +1,10 @@
 // BYTES as parts joined by `+`: pairs of hex digits, or such pairs, `*` and how often they stand.
+ghost use mathlib.Core.Path.{_≡_};
 ghost use Prim.Native.Nat.{_+_, _*_, _<_, _≤_};
 ghost use lib.ListN.{length};
+ghost use Rattle.digits.specs.declared.Number.the-variants.{Is};
 ghost use Rattle.tokens.specs.Taken.{Held, InRoom};
+ghost use Rattle.tokens.specs.Parts.{pairCount, grown, partAt, spreadIn, partsFrom, PutInto};
 use crate::ROOM;
 use crate::Taken;
 use digits::Number;
@@ -22,6 +25,9 @@ fn spread(
 ) -> Taken
     requires { ⌜ (at + 2 * count ≤ length (now line)) × (times < 4294967296) ⌝ }
     requires { ⌜ (at < end) × (end ≤ length (now line)) × (InRoom held) ⌝ }
+    requires { ⌜ 0 < count ⌝ }
+    ensures { λ r. ⌜ r ≡ grown held count (Is times end) ⌝ }
+    ensures { λ r. ⌜ now (room .exit) ≡ spreadIn (now (line .entry)) at count held (now (room .entry)) r ⌝ }
     ensures { λ r. ⌜ Held at (length (now (line .entry))) r ⌝ }
 {
     if times == 0 {
@@ -43,6 +49,8 @@ fn spread(
 // The part that starts at `at`, behind the `held` bytes in the room. It has a pair at least.
 fn part(line: &[u8], at: usize, room: &mut [u8; ROOM], held: usize) -> Taken
     requires { ⌜ (at ≤ length (now line)) × (InRoom held) ⌝ }
+    ensures { λ r. ⌜ r ≡ partAt (now (line .entry)) at held ⌝ }
+    ensures { λ r. ⌜ now (room .exit) ≡ spreadIn (now (line .entry)) at (pairCount (now (line .entry)) at) held (now (room .entry)) r ⌝ }
     ensures { λ r. ⌜ Held at (length (now (line .entry))) r ⌝ }
 {
     let end = hex_end(line, at);
@@ -68,6 +76,7 @@ fn part(line: &[u8], at: usize, room: &mut [u8; ROOM], held: usize) -> Taken
 // All parts of the token that starts at `at`, put into the room from its start.
 pub(crate) fn parts(line: &[u8], at: usize, room: &mut [u8; ROOM]) -> Taken
     requires { ⌜ at ≤ length (now line) ⌝ }
+    ensures { λ r. ⌜ PutInto (partsFrom (length (now (line .entry)) + 1) (now (line .entry)) at 0 (now (room .entry))) r (now (room .exit)) ⌝ }
     ensures { λ r. ⌜ Held at (length (now (line .entry))) r ⌝ }
 {
     let mut i = at;
