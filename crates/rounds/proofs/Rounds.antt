@@ -16,8 +16,9 @@ use Rattle.layout.specs.Write.{groupBytes, Whole, Allowed}
 use Rattle.layout.specs.Edit.{edited}
 use Rattle.layout.specs.Screen.{fieldSet}
 use Rattle.layout.proofs.Accepted.{body-accepted}
+use Rattle.layout.proofs.BytesBack.{read-bytes}
 use Rattle.rounds.specs.Rounds.{Bytes, groupsOf, GroupRead, BodyAllowed, WrittenAs, EditRead}
-use Rattle.rounds.proofs.RecordBack.{read-bytes, bytes-read, set-alone}
+use Rattle.rounds.proofs.RecordBack.{bytes-read, set-alone}
 use Rattle.layout.proofs.Lists.{rows-length}
 use Rattle.rounds.proofs.GroupRounds.{group-allowed, group-back, group-read}
 use Rattle.rounds.proofs.BodyRounds.{body-back, body-allowed, body-run, groups-back}

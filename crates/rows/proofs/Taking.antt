@@ -1,11 +1,11 @@
 -- The records of a flat table taken out one after the other: what they come to so far, and what is written so far.
-use Prim.Native.Nat.{ℕ, _+_, _*_, _≤_, _<_}
+use Prim.Native.Nat.{ℕ, _+_, _-_, _*_, _≤_, _<_}
 use mathlib.Core.Path.{_≡_, sym, ap, ap₂, _∙_}
 use mathlib.Core.Bool.{Bool}
 use mathlib.Core.List.{List, _++_}
 use native.Mathlib.Omega.{arith}
 use native.Mathlib.Numerals.{add-one}
-use lib.ListN.{length, getD, take, length-append}
+use lib.ListN.{length, getD, take, drop, length-append}
 use Rattle.layout.specs.Edit.{replaced}
 use Rattle.layout.specs.Records.{blank}
 use Rattle.layout.specs.declared.record.Record.{Record}
@@ -17,7 +17,7 @@ use Rattle.plan.specs.Checking.{begun, looked, lookedAt, planned, planOf}
 use Rattle.plan.specs.Chunks.{chunkOf, chunksOf}
 use Rattle.plan.proofs.Length.{length-most, records-within}
 use Rattle.plan.proofs.Passes.{chunks-none, chunks-most, chunks-next}
-use Rattle.flat.specs.Flat.{lentRows, flatRecord, tableOf}
+use Rattle.flat.specs.Flat.{lentRows, recordIn, flatRecord, tableOf}
 
 pub table-length : (flat : List ℕ) → length (tableOf flat) ≡ lentRows (length flat)
 table-length flat = rows-length (flatRecord flat) 0 (lentRows (length flat))
@@ -64,6 +64,10 @@ module _ (text flat : List ℕ) (count : ℕ) where
 
 -- ---- the chunks of the first i records
 
+-- row number i is what is lent
+pub row-there : (flat : List ℕ) (i : ℕ) → take (28 * i + 28 - 28 * i) (drop (28 * i) flat) ≡ take 28 (drop (28 * i) flat)
+row-there flat i = let z : 28 * i + 28 - 28 * i ≡ 28 = omega arith in rw z
+
 module _ (flat : List ℕ) (n : ℕ) (old : List ℕ) (at : ℕ) (seconds : Bool) where
   abbrev chunks : ℕ → List ℕ
   chunks i = chunksOf seconds (take i (tableOf flat))
@@ -82,11 +86,18 @@ module _ (flat : List ℕ) (n : ℕ) (old : List ℕ) (at : ℕ) (seconds : Bool
     pub putting-long : length now ≡ length old
     putting-long = ap length (p .so) ∙ replaced-length old at (chunks i) (omega (arith, room, chunks-most seconds (tableOf flat) i n (p .some)))
 
-    module _ (h : i < n) (r : Record) (e : r ≡ flatRecord flat i) where
+    module _ (h : i < n) (row : List ℕ) (e : row ≡ take 28 (drop (28 * i) flat)) where
+      abbrev r : Record
+      r = recordIn row
+
+      stands : r ≡ flatRecord flat i
+      unfolding flatRecord
+      stands = ap recordIn e
+
       more : chunks (i + 1) ≡ chunks i ++ chunkOf seconds r
       more =
           chunks-next seconds (tableOf flat) i (omega (arith, table-length flat, lent))
-          ∙ ap (λ (a : Record). chunks i ++ chunkOf seconds a) (sym (record-is flat i r (omega (arith, lent)) e))
+          ∙ ap (λ (a : Record). chunks i ++ chunkOf seconds a) (sym (record-is flat i r (omega (arith, lent)) stands))
 
       pub putting-room : to + length (chunkOf seconds r) ≤ length now
       putting-room =

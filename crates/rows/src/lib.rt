@@ -1,12 +1,12 @@
-// A group written from a flat table of records (document 01, "Writing and editing"). They are taken out one at a time: no table of them is made.
+// A group written from a flat table of records (document 01, "Writing and editing"). They are taken out one at a time: no table of them is made. A row's bytes 0-25 go into its Ctab as they are.
 ghost use mathlib.Core.Path.{_≡_};
 ghost use Prim.Native.Nat.{_+_, _≤_};
 ghost use lib.ListN.{length, take};
 ghost use Rattle.layout.specs.Edit.{replaced};
 ghost use Rattle.layout.specs.Promises.{GroupWritten};
 ghost use Rattle.plan.specs.Checking.{planOf};
-ghost use Rattle.plan.specs.Chunks.{chunksOf};
-ghost use Rattle.flat.specs.Flat.{lentRows, tableOf};
+ghost use Rattle.plan.specs.Chunks.{chunkOf, chunksOf};
+ghost use Rattle.flat.specs.Flat.{lentRows, recordIn, tableOf};
 use flat::record_at;
 use flat::row_count;
 use layout::answer::Measured;
@@ -15,7 +15,8 @@ use plan::begin;
 use plan::look_at;
 use plan::measured;
 use plan::plan_for;
-use write::chunks::put_chunk;
+use write::chunks::put_cntt;
+use write::chunks::put_ctab;
 use write::start::put_start;
 
 // What writing a text and the first records of a flat table comes to: each record is looked at once.
@@ -32,6 +33,22 @@ fn plan_rows(text: &[u8], flat: &[u8], count: usize, room: usize) -> Plan
     plan_for(x, room)
 }
 
+// The chunk of a row at `at`, and the place behind it: its Ctab, or, where `seconds`, its Cntt if it has one.
+fn put_row(out: &mut [u8], at: usize, row: &[u8], seconds: bool) -> usize
+    requires { ⌜ (length (now row) ≡ 28) × (at + length (chunkOf seconds (recordIn (now row))) ≤ length (now out)) ⌝ }
+    ensures { λ m. ⌜ (m ≡ at + length (chunkOf seconds (recordIn (now (row .entry))))) × (now (out .exit) ≡ replaced (now (out .entry)) at (chunkOf seconds (recordIn (now (row .entry))))) ⌝ }
+{
+    if !seconds {
+        put_ctab(&mut out[at..], &row[0..26]);
+        return at + 35;
+    }
+    if row[26] == 0 {
+        return at;
+    }
+    put_cntt(&mut out[at..], row[0], row[27]);
+    at + 10
+}
+
 // The chunks of the first n records from `at` on, and the place behind them: their Ctabs, or, where `seconds`, their Cntts.
 fn put_chunks(flat: &[u8], n: usize, out: &mut [u8], at: usize, seconds: bool) -> usize
     requires { ⌜ (n ≤ lentRows (length (now flat))) × (at + length (chunksOf seconds (take n (tableOf (now flat)))) ≤ length (now out)) ⌝ }
@@ -40,7 +57,8 @@ fn put_chunks(flat: &[u8], n: usize, out: &mut [u8], at: usize, seconds: bool) -
     let mut to = at;
     let mut i: usize = 0;
     while i < n {
-        to = put_chunk(out, to, record_at(flat, i), seconds);
+        let from = 28 * i;
+        to = put_row(out, to, &flat[from..from + 28], seconds);
         i += 1;
     }
     to

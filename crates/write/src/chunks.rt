@@ -1,18 +1,19 @@
 // The chunk writers: each writes at the start of what it is lent and lends on the tail behind its header.
 ghost use mathlib.Core.Path.{_≡_};
-ghost use mathlib.Core.List.{_++_};
+ghost use mathlib.Core.List.{[], _∷_, _++_};
 ghost use Prim.Native.Nat.{_+_, _≤_};
 ghost use lib.ListN.{length, drop};
-ghost use Rattle.layout.specs.Bytes.{CSEG, Sdec, four, chunk};
+ghost use Rattle.layout.specs.Bytes.{CSEG, Sdec, Ctab, four, chunk};
 ghost use Rattle.layout.specs.declared.record.SecondTable.the-variants.{Value};
 ghost use Rattle.layout.specs.Edit.{replaced};
-ghost use Rattle.layout.specs.Write.{ctabBytes, cnttBytes};
+ghost use Rattle.layout.specs.Write.{cnttBytes};
 ghost use Rattle.plan.specs.Chunks.{chunkOf};
 use crate::put::put_bytes;
 use crate::put::put_head;
-use crate::put::put_record;
+use crate::put::put_held;
 use layout::record::Record;
 use layout::record::SecondTable;
+use record::held::bytes_of;
 
 // An Sdec: its text behind its header.
 fn put_sdec(out: &mut [u8], text: &[u8])
@@ -32,17 +33,17 @@ pub fn put_front(out: &mut [u8], text: &[u8], size: usize)
     put_sdec(&mut out[8..], text);
 }
 
-// A Ctab: the record behind its header.
-fn put_ctab(out: &mut [u8], r: Record)
-    requires { ⌜ 35 ≤ length (now out) ⌝ }
-    ensures { λ _. ⌜ now (out .exit) ≡ ctabBytes r ++ drop 35 (now (out .entry)) ⌝ }
+// A Ctab: a record behind its header, from its bytes 0-25.
+pub fn put_ctab(out: &mut [u8], b: &[u8])
+    requires { ⌜ (length (now b) ≡ 26) × (35 ≤ length (now out)) ⌝ }
+    ensures { λ _. ⌜ now (out .exit) ≡ chunk Ctab (now (b .entry) ++ (0 ∷ [])) ++ drop 35 (now (out .entry)) ⌝ }
 {
     put_head(out, 0x4374_6162, 27);
-    put_record(&mut out[8..], r);
+    put_held(&mut out[8..], b);
 }
 
 // A Cntt: a source channel and a table value behind its header.
-fn put_cntt(out: &mut [u8], channel: u8, v: u8)
+pub fn put_cntt(out: &mut [u8], channel: u8, v: u8)
     requires { ⌜ 10 ≤ length (now out) ⌝ }
     ensures { λ _. ⌜ now (out .exit) ≡ cnttBytes channel (Value v) ++ drop 10 (now (out .entry)) ⌝ }
 {
@@ -57,7 +58,8 @@ pub fn put_chunk(out: &mut [u8], at: usize, r: Record, seconds: bool) -> usize
     ensures { λ m. ⌜ (m ≡ at + length (chunkOf seconds r)) × (now (out .exit) ≡ replaced (now (out .entry)) at (chunkOf seconds r)) ⌝ }
 {
     if !seconds {
-        put_ctab(&mut out[at..], r);
+        let b = bytes_of(r);
+        put_ctab(&mut out[at..], &b);
         return at + 35;
     }
     let source = r.source;

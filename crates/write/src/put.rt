@@ -1,6 +1,6 @@
 // What chunks are made of: bytes, a header, a record. Each writer writes at the start of what it is lent.
 ghost use mathlib.Core.Path.{_≡_};
-ghost use mathlib.Core.List.{_++_};
+ghost use mathlib.Core.List.{_∷_, _++_};
 ghost use Prim.Native.Nat.{_≤_};
 ghost use lib.ListN.{length, drop};
 ghost use Rattle.layout.specs.Bytes.{four};
@@ -35,12 +35,20 @@ pub fn put_head(out: &mut [u8], tag: usize, size: usize)
     out[7] = (size % 256) as u8;
 }
 
-// The 27 bytes of a record; byte 26 is always written as 00.
+// The 27 bytes of a record from its bytes 0-25; byte 26 is always written as 00.
+pub fn put_held(out: &mut [u8], b: &[u8])
+    requires { ⌜ (length (now b) ≡ 26) × (27 ≤ length (now out)) ⌝ }
+    ensures { λ _. ⌜ now (out .exit) ≡ now (b .entry) ++ (0 ∷ drop 27 (now (out .entry))) ⌝ }
+{
+    put_bytes(out, b);
+    out[26] = 0;
+}
+
+// The 27 bytes of a record.
 pub fn put_record(out: &mut [u8], r: Record)
     requires { ⌜ 27 ≤ length (now out) ⌝ }
     ensures { λ _. ⌜ now (out .exit) ≡ fileBytes r ++ drop 27 (now (out .entry)) ⌝ }
 {
     let b = bytes_of(r);
-    put_bytes(out, &b);
-    out[26] = 0;
+    put_held(out, &b);
 }

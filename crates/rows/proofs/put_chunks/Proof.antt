@@ -1,7 +1,6 @@
 -- After i turns the chunks of the first i records stand in the buffer; i goes up to n. Each chunk has room because all have.
 use Prim.Native.Nat.{_-_}
-use native.Mathlib.Omega.{arith}
-use Rattle.rows.proofs.Taking.{Putting, putting-start, putting-long, putting-room, putting-next, putting-end}
+use Rattle.rows.proofs.Taking.{Putting, putting-start, putting-long, putting-room, putting-next, putting-end, row-there}
 use borrow.Author.Needs.{needs}
 use Rattle.rows.proofs.put_chunks.Statement.{statement}
 use Rattle.rows.proofs.put_chunks.Tie as tie
@@ -15,14 +14,28 @@ abbrev μ-loop : tie.MeasureT-loop
 loop-holds : tie.Need-loop-holds Inv-loop μ-loop
 loop-holds c = putting-start _ _ _ _ _
 
-record-at-requires : tie.Need-record-at-requires Inv-loop μ-loop
-record-at-requires c κs = let pre = c .before .before .before .before .before .pre in omega (arith, pre .0)
+mul-from : tie.Need-mul-from Inv-loop μ-loop
+mul-from c = search needs
 
-put-chunk-requires : tie.Need-put-chunk-requires Inv-loop μ-loop
-put-chunk-requires c κs =
+add-put-row : tie.Need-add-put-row Inv-loop μ-loop
+add-put-row c = search needs
+
+sub-put-row : tie.Need-sub-put-row Inv-loop μ-loop
+sub-put-row c = search needs
+
+part-put-row-start : tie.Need-part-put-row-start Inv-loop μ-loop
+part-put-row-start c = search needs
+
+part-put-row-end : tie.Need-part-put-row-end Inv-loop μ-loop
+part-put-row-end c = search needs
+
+put-row-requires : tie.Need-put-row-requires Inv-loop μ-loop
+put-row-requires c κs =
     let l = c .before .before .before in
-    let pre = l .before .before .before .pre in
-    putting-room _ _ _ _ _ (pre .0) (pre .1) _ _ _ (l .loop .inv) (search needs) _ (c .record-at .ensures)
+    let pre = l .before .before .before .pre in (
+      search needs,
+      putting-room _ _ _ _ _ (pre .0) (pre .1) _ _ _ (l .loop .inv) (search needs) _ (search row-there),
+    )
 
 add-i : tie.Need-add-i Inv-loop μ-loop
 add-i c = search needs
@@ -33,10 +46,9 @@ loop-less c = search needs
 loop-again : tie.Need-loop-again Inv-loop μ-loop
 loop-again c =
     let p = c .before .before in
-    let r = p .before in
-    let l = r .before .before .before in
+    let l = p .before .before .before .before in
     let pre = l .before .before .before .pre in
-    putting-next _ _ _ _ _ (pre .0) (pre .1) _ _ _ (l .loop .inv) (search needs) _ (r .record-at .ensures) _ _ (p .put-chunk .ensures .0) (p .put-chunk .ensures .1)
+    putting-next _ _ _ _ _ (pre .0) (pre .1) _ _ _ (l .loop .inv) (search needs) _ (search row-there) _ _ (p .put-row .ensures .0) (p .put-row .ensures .1)
 
 same-length : tie.Need-same-length Inv-loop μ-loop
 same-length c =
@@ -55,8 +67,12 @@ put-chunks-spec =
     Inv-loop
     μ-loop
     loop-holds
-    record-at-requires
-    put-chunk-requires
+    mul-from
+    add-put-row
+    sub-put-row
+    part-put-row-start
+    part-put-row-end
+    put-row-requires
     add-i
     loop-less
     loop-again

@@ -1,9 +1,15 @@
+use mathlib.Core.Path.{ap, _∙_}
 use native.Mathlib.Omega.{arith}
+use lib.ListN.{length}
 use borrow.Author.Tests.{not-true, not-false}
+use Rattle.layout.proofs.Records.{bytes-length}
 use Rattle.write.proofs.Stored.{ctab-fits, cntt-fits, ctab-replaced, cntt-replaced, none-replaced}
 use borrow.Author.Needs.{needs}
 use Rattle.write.proofs.chunks.put_chunk.Statement.{statement}
 use Rattle.write.proofs.chunks.put_chunk.Tie as tie
+
+bytes-of-requires : tie.Need-bytes-of-requires
+bytes-of-requires c κs = search needs
 
 sub-put-ctab : tie.Need-sub-put-ctab
 sub-put-ctab c = search needs
@@ -14,10 +20,16 @@ part-put-ctab-start c = search needs
 part-put-ctab-end : tie.Need-part-put-ctab-end
 part-put-ctab-end c = search needs
 
+slice-aggregate-put-ctab : tie.Need-slice-aggregate-put-ctab
+slice-aggregate-put-ctab c = search needs
+
 put-ctab-requires : tie.Need-put-ctab-requires
 put-ctab-requires c κs =
-    let start = c .before .before .before in
-    ctab-fits (start .args .out .now) (start .args .at) (start .args .r) (start .args .seconds) (not-true _ (c .before .if1 .taken)) (start .pre)
+    let made = c .before .before in
+    let start = made .before .before .before in (
+      ap length (made .bytes-of .ensures) ∙ bytes-length (start .args .r),
+      ctab-fits (start .args .out .now) (start .args .at) (start .args .r) (start .args .seconds) (not-true _ (made .before .if1 .taken)) (start .pre),
+    )
 
 add-result : tie.Need-add-result
 add-result c = search needs
@@ -27,8 +39,10 @@ same-length c = search needs
 
 returns : tie.Need-returns
 returns c =
-    let start = c .before .before .before .before .before .before in
-    ctab-replaced (start .args .out .now) (start .args .at) (start .args .r) (omega (arith, start .pre)) (start .args .seconds) (c .before .before .put-ctab .last .0) (not-true _ (c .before .before .before .before .if1 .taken)) (c .before .before .put-ctab .ensures)
+    let put = c .before .before in
+    let made = put .before .before .before in
+    let start = made .before .before .before in
+    ctab-replaced (start .args .out .now) (start .args .at) (start .args .r) (omega (arith, start .pre)) (start .args .seconds) _ (put .put-ctab .last .0) (not-true _ (made .before .if1 .taken)) (made .bytes-of .ensures) (put .put-ctab .ensures)
 
 enum-told : tie.Need-enum-told
 enum-told c = search needs
@@ -70,9 +84,11 @@ pub put-chunk-spec : {M : Type 1} → statement M
 put-chunk-spec =
     tie.close
     (tie.spec
+    bytes-of-requires
     sub-put-ctab
     part-put-ctab-start
     part-put-ctab-end
+    slice-aggregate-put-ctab
     put-ctab-requires
     add-result
     same-length

@@ -6,30 +6,25 @@ use Rattle.write.proofs.put.put_record.Tie as tie
 bytes-of-requires : tie.Need-bytes-of-requires
 bytes-of-requires c κs = search needs
 
-slice-aggregate-put-bytes : tie.Need-slice-aggregate-put-bytes
-slice-aggregate-put-bytes c = search needs
+slice-aggregate-put-held : tie.Need-slice-aggregate-put-held
+slice-aggregate-put-held c = search needs
 
-put-bytes-requires : tie.Need-put-bytes-requires
-put-bytes-requires c κs = search needs
-
-slice-write-out : tie.Need-slice-write-out
-slice-write-out c = search needs
+put-held-requires : tie.Need-put-held-requires
+put-held-requires c κs = search needs
 
 same-length : tie.Need-same-length
 same-length c = search needs
 
 returns : tie.Need-returns
 returns c =
-    let start = c .before .before .before .before .before .before .before in
-    record-stored (start .args .r) _ (start .args .out .now) (c .before .before .put-bytes .last .0) (start .pre) (c .before .before .before .before .before .bytes-of .ensures) (c .before .before .put-bytes .ensures)
+    record-stored _ _ _ _ (c .before .before .before .before .before .bytes-of .ensures) (c .before .before .put-held .ensures)
 
 pub put-record-spec : {M : Type 1} → statement M
 put-record-spec =
     tie.close
     (tie.spec
     bytes-of-requires
-    slice-aggregate-put-bytes
-    put-bytes-requires
-    slice-write-out
+    slice-aggregate-put-held
+    put-held-requires
     same-length
     returns)

@@ -1,0 +1,33 @@
+-- A row as the record that it stands for: its first 26 bytes are the record's, and its last two say which Cntt there is.
+use Prim.Native.Nat.{ℕ}
+use mathlib.Core.Path.{_≡_, refl, sym, ap, _∙_}
+use mathlib.Core.List.{List}
+use native.Mathlib.Omega.{arith}
+use lib.ListN.{length, getD, take}
+use borrow.Author.Tests.{eq-eqb, ne-eqb}
+use Rattle.layout.specs.declared.record.SecondTable.the-variants.{Absent, Value}
+use Rattle.layout.specs.Records.{bytesOf, recordOf}
+use Rattle.layout.proofs.Records.{bytes-length}
+use Rattle.layout.proofs.BytesBack.{read-bytes}
+use Rattle.cross.specs.Rows.{secondOf}
+use Rattle.flat.specs.Flat.{recordIn}
+
+module _ (row : List ℕ) where
+  pub row-bytes : length row ≡ 28 → take 26 row ≡ bytesOf (recordIn row)
+  unfolding recordIn
+  row-bytes h = sym (read-bytes row (secondOf (getD row 26 0) (getD row 27 0)) (omega (arith, h)))
+
+  pub row-held : length row ≡ 28 → length (take 26 row) ≡ 26
+  row-held h = ap length (row-bytes h) ∙ bytes-length (recordIn row)
+
+  pub row-source : recordIn row .source .0 ≡ getD row 0 0
+  unfolding recordIn recordOf
+  row-source = refl
+
+  pub row-absent : getD row 26 0 ≡ 0 → recordIn row .second ≡ Absent
+  unfolding recordIn recordOf secondOf
+  row-absent e = rw (eq-eqb (getD row 26 0) 0 e)
+
+  pub row-value : (getD row 26 0 ≡ 0 → ⊥) → recordIn row .second ≡ Value (getD row 27 0)
+  unfolding recordIn recordOf secondOf
+  row-value n = rw (ne-eqb (getD row 26 0) 0 n)
