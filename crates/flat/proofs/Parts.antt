@@ -5,6 +5,7 @@ use mathlib.Core.List.{List}
 use native.Mathlib.Omega.{arith}
 use lib.ListN.{length, getD, take}
 use borrow.Author.Tests.{eq-eqb, ne-eqb}
+use Rattle.layout.specs.declared.record.SecondTable.{SecondTable}
 use Rattle.layout.specs.declared.record.SecondTable.the-variants.{Absent, Value}
 use Rattle.layout.specs.Records.{bytesOf, recordOf}
 use Rattle.layout.proofs.Records.{bytes-length}
@@ -19,6 +20,10 @@ module _ (row : List ℕ) where
 
   pub row-held : length row ≡ 28 → length (take 26 row) ≡ 26
   row-held h = ap length (row-bytes h) ∙ bytes-length (recordIn row)
+
+  pub row-record : (second : SecondTable) → second ≡ secondOf (getD row 26 0) (getD row 27 0) → recordOf row second ≡ recordIn row
+  unfolding recordIn
+  row-record second e = ap (recordOf row) e
 
   pub row-source : recordIn row .source .0 ≡ getD row 0 0
   unfolding recordIn recordOf

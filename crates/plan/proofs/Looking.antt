@@ -1,6 +1,6 @@
 -- What may be written: one law for each way out.
 use Prim.Native.Nat.{ℕ, _+_, _*_, _-_, _≤_, _<_}
-use mathlib.Core.Path.{_≡_}
+use mathlib.Core.Path.{_≡_, ap, _∙_}
 use mathlib.Core.Bool.{true, false}
 use mathlib.Core.List.{List}
 use native.Mathlib.Omega.{arith}
@@ -10,7 +10,7 @@ use Rattle.layout.specs.declared.record.Record.{Record}
 use Rattle.layout.specs.declared.record.SecondTable.{SecondTable}
 use Rattle.layout.specs.declared.record.SecondTable.the-variants.{Absent, Value}
 use Rattle.layout.specs.Ranges.{firstEdition}
-use Rattle.layout.specs.Records.{channelOf, firstBad}
+use Rattle.layout.specs.Records.{bytesOf, recordOf, channelOf, badByte, firstBad}
 use Rattle.layout.specs.Sdec.{soundText}
 use Rattle.layout.proofs.Records.{ranged, ranged-channel}
 use Rattle.plan.specs.declared.Checked.{Checked}
@@ -44,6 +44,11 @@ module _ (x : Checked) (i : ℕ) (r : Record) where
   pub looked-stays : (x .number ≡ 0 → ⊥) → looked x i r ≡ x
   unfolding looked
   looked-stays h = rw (ne-eqb (x .number) 0 h)
+
+  -- its bytes 0-25 and its second table are all that is looked at
+  pub looked-held : (b : List ℕ) (y : Checked) → b ≡ bytesOf r → y ≡ looked x i (recordOf b (r .second)) → y ≡ looked x i r
+  unfolding looked firstBad badByte channelOf bytesOf recordOf
+  looked-held b y e q = q ∙ ap (λ (l : List ℕ). looked x i (recordOf l (r .second))) e
 
   module _ (z : x .number ≡ 0) (k : ℕ) (e : k ≡ firstBad firstEdition r) where
     pub looked-bad : k < 26 → looked x i r ≡ refusedAt 9 (27 * i + k)

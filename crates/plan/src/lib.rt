@@ -2,10 +2,13 @@
 ghost use mathlib.Core.Path.{_≡_};
 ghost use Prim.Native.Nat.{_+_, _*_, _≤_, _<_};
 ghost use lib.ListN.{length};
+ghost use Rattle.layout.specs.Records.{recordOf};
 ghost use Rattle.plan.specs.Checking.{refusedAt, begun, chunksSize, looked, noPlan, planned, measuredBy};
 use layout::answer::Measured;
 use layout::record::Record;
 use layout::record::SecondTable;
+use record::held::bytes_of;
+use record::held::first_bad_of;
 
 // What the records looked at so far come to: a refusal, or how many are to be looked at in all, the group's length with those seen,
 // and which source channels they have.
@@ -66,21 +69,20 @@ fn chunks_size(second: SecondTable) -> usize
     }
 }
 
-// Record number i: its first byte out of range, then a source channel that an earlier record has. A refusal stays.
-pub fn look_at(x: Checked, i: usize, r: Record) -> Checked
-    requires { ⌜ (i < 340000000000000000) × (x .length ≤ 271 + 45 * i) ⌝ }
-    ensures { λ y. ⌜ y ≡ looked x i r ⌝ }
+// Record number i, whose bytes 0-25 stand at the start of b: its first byte out of range, then a source channel that an earlier record has.
+// A refusal stays.
+pub fn look_at_bytes(x: Checked, i: usize, b: &[u8], second: SecondTable) -> Checked
+    requires { ⌜ (26 ≤ length (now b)) × ((i < 340000000000000000) × (x .length ≤ 271 + 45 * i)) ⌝ }
+    ensures { λ y. ⌜ y ≡ looked x i (recordOf (now (b .entry)) second) ⌝ }
 {
     if x.number != 0 {
         return x;
     }
-    let source = r.source;
-    let second = r.second;
-    let k = record::held::first_bad(r);
+    let k = first_bad_of(b, second);
     if k < 26 {
         return refused_at(9, 27 * i + k);
     }
-    let channel = source.0 as usize;
+    let channel = b[0] as usize;
     let mut seen = x.seen;
     if seen[channel] {
         return refused_at(10, 27 * i);
@@ -93,6 +95,16 @@ pub fn look_at(x: Checked, i: usize, r: Record) -> Checked
         length: x.length + chunks_size(second),
         seen: seen,
     }
+}
+
+// Record number i, in memory.
+pub fn look_at(x: Checked, i: usize, r: Record) -> Checked
+    requires { ⌜ (i < 340000000000000000) × (x .length ≤ 271 + 45 * i) ⌝ }
+    ensures { λ y. ⌜ y ≡ looked x i r ⌝ }
+{
+    let second = r.second;
+    let b = bytes_of(r);
+    look_at_bytes(x, i, &b, second)
 }
 
 fn no_plan(number: u8, place: usize) -> Plan

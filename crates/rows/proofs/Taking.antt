@@ -5,7 +5,8 @@ use mathlib.Core.Bool.{Bool}
 use mathlib.Core.List.{List, _++_}
 use native.Mathlib.Omega.{arith}
 use native.Mathlib.Numerals.{add-one}
-use lib.ListN.{length, getD, take, drop, length-append}
+use lib.ListN.{length, getD, take, drop, length-append, length-drop}
+use lib.Seq.{length-take-le}
 use Rattle.layout.specs.Edit.{replaced}
 use Rattle.layout.specs.Records.{blank}
 use Rattle.layout.specs.declared.record.Record.{Record}
@@ -24,6 +25,18 @@ table-length flat = rows-length (flatRecord flat) 0 (lentRows (length flat))
 
 record-is : (flat : List ℕ) (i : ℕ) (r : Record) → i < lentRows (length flat) → r ≡ flatRecord flat i → r ≡ getD (tableOf flat) i blank
 record-is flat i r h e = e ∙ sym (getD-rows (flatRecord flat) blank (lentRows (length flat)) i h)
+
+-- row number i is what is lent
+pub row-there : (flat : List ℕ) (i : ℕ) → take (28 * i + 28 - 28 * i) (drop (28 * i) flat) ≡ take 28 (drop (28 * i) flat)
+row-there flat i = let z : 28 * i + 28 - 28 * i ≡ 28 = omega arith in rw z
+
+pub row-length : (flat : List ℕ) (i : ℕ) → i < lentRows (length flat) → length (take (28 * i + 28 - 28 * i) (drop (28 * i) flat)) ≡ 28
+row-length flat i h = ap length (row-there flat i) ∙ length-take-le 28 (drop (28 * i) flat) (omega (arith, h, length-drop (28 * i) flat))
+
+-- .. and record number i stands in it
+stands : (flat : List ℕ) (i : ℕ) (row : List ℕ) → row ≡ take 28 (drop (28 * i) flat) → recordIn row ≡ flatRecord flat i
+unfolding flatRecord
+stands flat i row e = ap recordIn e
 
 -- ---- what the first i records come to
 
@@ -50,10 +63,10 @@ module _ (text flat : List ℕ) (count : ℕ) where
     pub looking-long : x .length ≤ 271 + 45 * i
     looking-long = rw (l .so) (length-most text (length (tableOf flat)) count (tableOf flat) i)
 
-    pub looking-next : (r : Record) (y : Checked) → i < n → r ≡ flatRecord flat i → y ≡ looked x i r → Looking n (i + 1) y
+    pub looking-next : (row : List ℕ) (y : Checked) → i < n → row ≡ take 28 (drop (28 * i) flat) → y ≡ looked x i (recordIn row) → Looking n (i + 1) y
     unfolding lookedAt
-    looking-next r y h e q =
-        let d = record-is flat i r (omega (arith, looking-lent)) e in
+    looking-next row y h e q =
+        let d = record-is flat i (recordIn row) (omega (arith, looking-lent)) (stands flat i row e) in
         record { whole = l .whole; some = omega arith; so = rw (add-one i) (q ∙ ap₂ (λ (a : Checked) (b : Record). looked a i b) (l .so) d) }
 
     pub looking-end : (room : ℕ) (p : Plan) → n ≤ i → p ≡ planned x room → p ≡ planOf text (tableOf flat) count room
@@ -63,10 +76,6 @@ module _ (text flat : List ℕ) (count : ℕ) where
         q ∙ ap (λ (a : Checked). planned a room) (l .so ∙ ap (lookedAt start (tableOf flat)) z)
 
 -- ---- the chunks of the first i records
-
--- row number i is what is lent
-pub row-there : (flat : List ℕ) (i : ℕ) → take (28 * i + 28 - 28 * i) (drop (28 * i) flat) ≡ take 28 (drop (28 * i) flat)
-row-there flat i = let z : 28 * i + 28 - 28 * i ≡ 28 = omega arith in rw z
 
 module _ (flat : List ℕ) (n : ℕ) (old : List ℕ) (at : ℕ) (seconds : Bool) where
   abbrev chunks : ℕ → List ℕ
@@ -90,14 +99,10 @@ module _ (flat : List ℕ) (n : ℕ) (old : List ℕ) (at : ℕ) (seconds : Bool
       abbrev r : Record
       r = recordIn row
 
-      stands : r ≡ flatRecord flat i
-      unfolding flatRecord
-      stands = ap recordIn e
-
       more : chunks (i + 1) ≡ chunks i ++ chunkOf seconds r
       more =
           chunks-next seconds (tableOf flat) i (omega (arith, table-length flat, lent))
-          ∙ ap (λ (a : Record). chunks i ++ chunkOf seconds a) (sym (record-is flat i r (omega (arith, lent)) stands))
+          ∙ ap (λ (a : Record). chunks i ++ chunkOf seconds a) (sym (record-is flat i r (omega (arith, lent)) (stands flat i row e)))
 
       pub putting-room : to + length (chunkOf seconds r) ≤ length now
       putting-room =

@@ -1,23 +1,32 @@
-// A group written from a flat table of records (document 01, "Writing and editing"). They are taken out one at a time: no table of them is made. A row's bytes 0-25 go into its Ctab as they are.
+// A group written from a flat table of records (document 01, "Writing and editing"). The rows are taken one at a time as they stand: no record of one is made, and no table of them.
 ghost use mathlib.Core.Path.{_≡_};
-ghost use Prim.Native.Nat.{_+_, _≤_};
+ghost use Prim.Native.Nat.{_+_, _*_, _≤_, _<_};
 ghost use lib.ListN.{length, take};
 ghost use Rattle.layout.specs.Edit.{replaced};
 ghost use Rattle.layout.specs.Promises.{GroupWritten};
-ghost use Rattle.plan.specs.Checking.{planOf};
+ghost use Rattle.plan.specs.Checking.{looked, planOf};
 ghost use Rattle.plan.specs.Chunks.{chunkOf, chunksOf};
 ghost use Rattle.flat.specs.Flat.{lentRows, recordIn, tableOf};
-use flat::record_at;
+use cross::row::second_of;
 use flat::row_count;
 use layout::answer::Measured;
+use plan::Checked;
 use plan::Plan;
 use plan::begin;
-use plan::look_at;
+use plan::look_at_bytes;
 use plan::measured;
 use plan::plan_for;
 use write::chunks::put_cntt;
 use write::chunks::put_ctab;
 use write::start::put_start;
+
+// Row number i looked at as the record that it stands for.
+fn look_at_row(x: Checked, i: usize, row: &[u8]) -> Checked
+    requires { ⌜ (length (now row) ≡ 28) × ((i < 340000000000000000) × (x .length ≤ 271 + 45 * i)) ⌝ }
+    ensures { λ y. ⌜ y ≡ looked x i (recordIn (now (row .entry))) ⌝ }
+{
+    look_at_bytes(x, i, row, second_of(row[26], row[27]))
+}
 
 // What writing a text and the first records of a flat table comes to: each record is looked at once.
 fn plan_rows(text: &[u8], flat: &[u8], count: usize, room: usize) -> Plan
@@ -27,7 +36,8 @@ fn plan_rows(text: &[u8], flat: &[u8], count: usize, room: usize) -> Plan
     let n = x.records;
     let mut i: usize = 0;
     while i < n {
-        x = look_at(x, i, record_at(flat, i));
+        let at = 28 * i;
+        x = look_at_row(x, i, &flat[at..at + 28]);
         i += 1;
     }
     plan_for(x, room)

@@ -1,7 +1,7 @@
 -- After i turns x is what the first i records come to; i goes up to their number.
 use Prim.Native.Nat.{_-_}
 use native.Mathlib.Omega.{arith}
-use Rattle.rows.proofs.Taking.{Looking, looking-start, looking-lent, looking-long, looking-next, looking-end}
+use Rattle.rows.proofs.Taking.{Looking, looking-start, looking-lent, looking-long, looking-next, looking-end, row-there, row-length}
 use borrow.Author.Needs.{needs}
 use Rattle.rows.proofs.plan_rows.Statement.{statement}
 use Rattle.rows.proofs.plan_rows.Tie as tie
@@ -21,14 +21,27 @@ begin-requires c κs = search needs
 loop-holds : tie.Need-loop-holds Inv-loop μ-loop
 loop-holds c = looking-start _ _ _ _ _ (c .before .row-count .ensures) (c .begin .ensures)
 
-record-at-requires : tie.Need-record-at-requires Inv-loop μ-loop
-record-at-requires c κs = let l = looking-lent _ _ _ _ _ _ (c .before .loop .inv) in omega (arith, l)
+mul-at : tie.Need-mul-at Inv-loop μ-loop
+mul-at c = let l = looking-lent _ _ _ _ _ _ (c .before .loop .inv) in omega (arith, l)
 
-look-at-requires : tie.Need-look-at-requires Inv-loop μ-loop
-look-at-requires c κs =
-    let inv = c .before .before .loop .inv in
+add-look-at-row : tie.Need-add-look-at-row Inv-loop μ-loop
+add-look-at-row c = let l = looking-lent _ _ _ _ _ _ (c .before .loop .inv) in omega (arith, l)
+
+sub-look-at-row : tie.Need-sub-look-at-row Inv-loop μ-loop
+sub-look-at-row c = search needs
+
+part-look-at-row-start : tie.Need-part-look-at-row-start Inv-loop μ-loop
+part-look-at-row-start c = search needs
+
+part-look-at-row-end : tie.Need-part-look-at-row-end Inv-loop μ-loop
+part-look-at-row-end c = let l = looking-lent _ _ _ _ _ _ (c .before .loop .inv) in omega (arith, l)
+
+look-at-row-requires : tie.Need-look-at-row-requires Inv-loop μ-loop
+look-at-row-requires c κs =
+    let t = c .before .before in
+    let inv = t .loop .inv in
     let l = looking-lent _ _ _ _ _ _ inv in
-    (omega (arith, l), looking-long _ _ _ _ _ _ inv)
+    (row-length (t .before .before .before .before .before .args .flat .now) (t .loop .i) (omega (arith, l)), (omega (arith, l), looking-long _ _ _ _ _ _ inv))
 
 add-i : tie.Need-add-i Inv-loop μ-loop
 add-i c = search needs
@@ -38,8 +51,7 @@ loop-less c = search needs
 
 loop-again : tie.Need-loop-again Inv-loop μ-loop
 loop-again c =
-    let r = c .before in
-    looking-next _ _ _ _ _ _ (r .before .before .loop .inv) _ _ (search needs) (r .record-at .ensures) (c .look-at .ensures)
+    looking-next _ _ _ _ _ _ (c .before .before .before .loop .inv) _ _ (search needs) (search row-there) (c .look-at-row .ensures)
 
 plan-for-requires : tie.Need-plan-for-requires Inv-loop μ-loop
 plan-for-requires c κs = search needs
@@ -56,8 +68,12 @@ plan-rows-spec =
     row-count-requires
     begin-requires
     loop-holds
-    record-at-requires
-    look-at-requires
+    mul-at
+    add-look-at-row
+    sub-look-at-row
+    part-look-at-row-start
+    part-look-at-row-end
+    look-at-row-requires
     add-i
     loop-less
     loop-again
