@@ -18,6 +18,7 @@ use plan::measured;
 use plan::plan_for;
 use write::chunks::put_cntt;
 use write::chunks::put_ctab;
+use write::put::put_bytes;
 use write::start::put_start;
 
 // Row number i looked at as the record that it stands for.
@@ -44,12 +45,15 @@ fn plan_rows(text: &[u8], flat: &[u8], count: usize, room: usize) -> Plan
 }
 
 // The chunk of a row at `at`, and the place behind it: its Ctab, or, where `seconds`, its Cntt if it has one.
+// The 26 bytes are taken out whole before any is stored: a store might else change what is still to be read, and each would go alone.
 fn put_row(out: &mut [u8], at: usize, row: &[u8], seconds: bool) -> usize
     requires { ⌜ (length (now row) ≡ 28) × (at + length (chunkOf seconds (recordIn (now row))) ≤ length (now out)) ⌝ }
     ensures { λ m. ⌜ (m ≡ at + length (chunkOf seconds (recordIn (now (row .entry))))) × (now (out .exit) ≡ replaced (now (out .entry)) at (chunkOf seconds (recordIn (now (row .entry))))) ⌝ }
 {
     if !seconds {
-        put_ctab(&mut out[at..], &row[0..26]);
+        let mut b = [0u8; 26];
+        put_bytes(&mut b, &row[0..26]);
+        put_ctab(&mut out[at..], &b);
         return at + 35;
     }
     if row[26] == 0 {

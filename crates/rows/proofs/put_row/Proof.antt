@@ -1,13 +1,30 @@
 -- The laws of a chunk in place of what stands there, for the record that the row stands for.
+use mathlib.Core.Path.{refl, ap, _∙_}
 use native.Mathlib.Omega.{arith}
-use lib.ListN.{getD}
+use lib.ListN.{length, getD, replicate}
 use borrow.Author.Tests.{not-true, not-false}
+use Rattle.layout.proofs.Records.{bytes-length}
 use Rattle.flat.specs.Flat.{recordIn}
 use Rattle.write.proofs.Stored.{ctab-fits, cntt-fits, ctab-replaced, cntt-replaced, none-replaced}
-use Rattle.flat.proofs.Parts.{row-bytes, row-held, row-source, row-absent, row-value}
+use Rattle.flat.proofs.Parts.{row-taken, row-source, row-absent, row-value}
 use borrow.Author.Needs.{needs}
 use Rattle.rows.proofs.put_row.Statement.{statement}
 use Rattle.rows.proofs.put_row.Tie as tie
+
+slice-aggregate-put-bytes : tie.Need-slice-aggregate-put-bytes
+slice-aggregate-put-bytes c = search needs
+
+sub-put-bytes : tie.Need-sub-put-bytes
+sub-put-bytes c = search needs
+
+part-put-bytes-start : tie.Need-part-put-bytes-start
+part-put-bytes-start c = search needs
+
+part-put-bytes-end : tie.Need-part-put-bytes-end
+part-put-bytes-end c = search needs
+
+put-bytes-requires : tie.Need-put-bytes-requires
+put-bytes-requires c κs = search needs
 
 sub-put-ctab : tie.Need-sub-put-ctab
 sub-put-ctab c = search needs
@@ -18,22 +35,17 @@ part-put-ctab-start c = search needs
 part-put-ctab-end : tie.Need-part-put-ctab-end
 part-put-ctab-end c = search needs
 
-sub-put-ctab-2 : tie.Need-sub-put-ctab-2
-sub-put-ctab-2 c = search needs
-
-part-put-ctab-start-2 : tie.Need-part-put-ctab-start-2
-part-put-ctab-start-2 c = search needs
-
-part-put-ctab-end-2 : tie.Need-part-put-ctab-end-2
-part-put-ctab-end-2 c = search needs
+slice-aggregate-put-ctab : tie.Need-slice-aggregate-put-ctab
+slice-aggregate-put-ctab c = search needs
 
 put-ctab-requires : tie.Need-put-ctab-requires
 put-ctab-requires c κs =
-    let taken = c .before .before in
-    let start = taken .before .before .before in
+    let taken = c .before .before .before in
+    let then = taken .before .before .before in
+    let start = then .before .before .before in
     let row = start .args .row .now in (
-      row-held row (start .pre .0),
-      ctab-fits (start .args .out .now) (start .args .at) (recordIn row) (start .args .seconds) (not-true _ (taken .if1 .taken)) (start .pre .1),
+      ap length (row-taken row _ (replicate 26 0) (start .pre .0) refl (taken .put-bytes .ensures)) ∙ bytes-length (recordIn row),
+      ctab-fits (start .args .out .now) (start .args .at) (recordIn row) (start .args .seconds) (not-true _ (then .if1 .taken)) (start .pre .1),
     )
 
 add-result : tie.Need-add-result
@@ -45,10 +57,12 @@ same-length c = search needs
 returns : tie.Need-returns
 returns c =
     let put = c .before .before in
-    let taken = put .before .before .before in
-    let start = taken .before .before .before in
+    let taken = put .before .before .before .before in
+    let then = taken .before .before .before in
+    let start = then .before .before .before in
     let row = start .args .row .now in
-    ctab-replaced (start .args .out .now) (start .args .at) (recordIn row) (omega (arith, start .pre .1)) (start .args .seconds) _ (put .put-ctab .last .0) (not-true _ (taken .if1 .taken)) (row-bytes row (start .pre .0)) (put .put-ctab .ensures)
+    ctab-replaced (start .args .out .now) (start .args .at) (recordIn row) (omega (arith, start .pre .1)) (start .args .seconds) _ (put .put-ctab .last .0) (not-true _ (then .if1 .taken))
+    (row-taken row _ (replicate 26 0) (start .pre .0) refl (taken .put-bytes .ensures)) (put .put-ctab .ensures)
 
 shared-slice-read-if2 : tie.Need-shared-slice-read-if2
 shared-slice-read-if2 c = search needs
@@ -102,12 +116,15 @@ pub put-row-spec : {M : Type 1} → statement M
 put-row-spec =
     tie.close
     (tie.spec
+    slice-aggregate-put-bytes
+    sub-put-bytes
+    part-put-bytes-start
+    part-put-bytes-end
+    put-bytes-requires
     sub-put-ctab
     part-put-ctab-start
     part-put-ctab-end
-    sub-put-ctab-2
-    part-put-ctab-start-2
-    part-put-ctab-end-2
+    slice-aggregate-put-ctab
     put-ctab-requires
     add-result
     same-length
