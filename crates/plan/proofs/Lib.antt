@@ -1,3 +1,4 @@
+pub mod Bits
 pub mod Seen
 pub mod Looking
 pub mod Length

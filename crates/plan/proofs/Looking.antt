@@ -1,14 +1,16 @@
 -- What may be written: one law for each way out.
-use Prim.Native.Nat.{ℕ, _+_, _*_, _-_, _≤_, _<_}
+use Prim.Native.Nat.{ℕ, _+_, _*_, _-_, _^_, _≤_, _<_}
 use mathlib.Core.Path.{_≡_, ap, _∙_}
 use mathlib.Core.Bool.{true, false}
 use mathlib.Core.List.{List}
 use native.Mathlib.Omega.{arith}
-use lib.ListN.{length, getD, set, replicate}
+use lib.Bits.{bitOr}
+use lib.ListN.{length}
 use borrow.Author.Tests.{eq-eqb, ne-eqb, lt-ltb, le-ltb}
 use Rattle.layout.specs.declared.record.Record.{Record}
 use Rattle.layout.specs.declared.record.SecondTable.{SecondTable}
 use Rattle.layout.specs.declared.record.SecondTable.the-variants.{Absent, Value}
+use Rattle.layout.specs.Plays.{bit}
 use Rattle.layout.specs.Ranges.{firstEdition}
 use Rattle.layout.specs.Records.{bytesOf, recordOf, channelOf, badByte, firstBad}
 use Rattle.layout.specs.Sdec.{soundText}
@@ -26,13 +28,17 @@ module _ (text : List ℕ) (lent count : ℕ) where
     unfolding begun
     begun-bad e = rw (le-ltb lent count h, e)
 
-    pub begun-sound : soundText text ≡ true → begun text lent count ≡ record { number = 0; place = 0; records = count; length = 16 + length text; seen = replicate 16 false }
+    pub begun-sound : soundText text ≡ true → begun text lent count ≡ record { number = 0; place = 0; records = count; length = 16 + length text; seen = 0 }
     unfolding begun
     begun-sound e = rw (le-ltb lent count h, e)
 
 -- a record with no bad byte has a source channel below sixteen
 pub channel-low : (r : Record) (k : ℕ) → k ≡ firstBad firstEdition r → 26 ≤ k → channelOf r < 16
 channel-low r k e h = ranged-channel r (ranged r (rw (← e) h))
+
+-- so a number of 64 bits has a bit for it
+pub channel-shift : (r : Record) (k : ℕ) → k ≡ firstBad firstEdition r → 26 ≤ k → channelOf r < 64
+channel-shift r k e h = omega (arith, channel-low r k e h)
 
 -- a record's chunks are at most 45 bytes
 pub size-most : (second : SecondTable) → chunksSize second ≤ 45
@@ -56,14 +62,14 @@ module _ (x : Checked) (i : ℕ) (r : Record) where
     looked-bad h = rw (eq-eqb (x .number) 0 z, ← e, lt-ltb k 26 h)
 
     module _ (h : 26 ≤ k) where
-      pub looked-again : getD (x .seen) (channelOf r) false ≡ true → looked x i r ≡ refusedAt 10 (27 * i)
+      pub looked-again : bit (x .seen) (channelOf r) ≡ true → looked x i r ≡ refusedAt 10 (27 * i)
       unfolding looked
       looked-again d = rw (eq-eqb (x .number) 0 z, ← e, le-ltb k 26 h, d)
 
-      pub looked-on : (size : ℕ) → getD (x .seen) (channelOf r) false ≡ false → size ≡ chunksSize (r .second)
-          → looked x i r ≡ record { number = 0; place = 0; records = x .records; length = x .length + size; seen = set (x .seen) (channelOf r) true }
+      pub looked-on : (size seen : ℕ) → bit (x .seen) (channelOf r) ≡ false → size ≡ chunksSize (r .second) → seen ≡ bitOr (x .seen) (2 ^ channelOf r)
+          → looked x i r ≡ record { number = 0; place = 0; records = x .records; length = x .length + size; seen = seen }
       unfolding looked
-      looked-on size d q = rw (eq-eqb (x .number) 0 z, ← e, le-ltb k 26 h, d, q)
+      looked-on size seen d q s = rw (eq-eqb (x .number) 0 z, ← e, le-ltb k 26 h, d, q, s)
 
 module _ (x : Checked) (room : ℕ) where
   pub planned-not : (x .number ≡ 0 → ⊥) → planned x room ≡ noPlan (x .number) (x .place)

@@ -7,7 +7,7 @@ use mathlib.Core.List.{List, _++_, flatMap}
 use native.Mathlib.Omega.{arith}
 use native.Mathlib.Decide.{decLt}
 use lib.Dec.{ltb}
-use lib.ListN.{length, getD, take, replicate, length-append}
+use lib.ListN.{length, getD, take, length-append}
 use lib.Seq.{getD-take, length-take-le, take-all}
 use borrow.Author.Tests.{lt-ltb, le-ltb}
 use Rattle.layout.specs.declared.record.Record.{Record}
@@ -85,7 +85,7 @@ module _ (text : List ℕ) (table : List Record) (count room : ℕ) where
     rs = take count table
 
     abbrev begins : Checked
-    begins = record { number = 0; place = 0; records = count; length = 16 + length text; seen = replicate 16 false }
+    begins = record { number = 0; place = 0; records = count; length = 16 + length text; seen = 0 }
 
     abbrev ends : Checked
     ends = lookedAt begins rs count

@@ -1,5 +1,5 @@
 -- The records looked at one by one come to what the definition's run comes to.
-use Prim.Native.Nat.{ℕ, zero, suc, _+_, _*_, _≤_, _<_}
+use Prim.Native.Nat.{ℕ, zero, suc, _+_, _*_, _^_, _≤_, _<_}
 use mathlib.Core.Path.{_≡_, refl, sym, _∙_, ap}
 use mathlib.Core.Logic.{_⊎_, inl, inr}
 use mathlib.Core.Bool.{Bool, true, false}
@@ -7,6 +7,7 @@ use mathlib.Core.List.{List}
 use native.Mathlib.Omega.{arith}
 use native.Mathlib.Decide.{decLt}
 use native.Mathlib.Numerals.{add-one}
+use lib.Bits.{bitOr}
 use lib.Dec.{ltb, eqb}
 use lib.ListN.{length, getD, take, length-append}
 use borrow.Author.Tests.{lt-ltb, le-ltb}
@@ -15,6 +16,7 @@ use Rattle.layout.specs.declared.turn.Turn.{Turn}
 use Rattle.layout.specs.declared.turn.Turn.the-variants.{Refused, More}
 use Rattle.layout.specs.declared.turn.Run.the-variants.{Stopped}
 use Rattle.layout.specs.Scan.{first, run}
+use Rattle.layout.specs.Plays.{bit}
 use Rattle.layout.specs.Ranges.{firstEdition}
 use Rattle.layout.specs.Records.{blank, channelOf, firstBad}
 use Rattle.layout.specs.Write.{recordOn, recordTurn}
@@ -92,9 +94,9 @@ module _ (rs : List Record) where
     refused number place z t e = rw e (record { number = z; stopped = g .rest ∙ run-stop turn i n number place l t })
 
     step : Going start (i + 1) (looked x i here) ⊎ Halted (looked x i here)
-    step = go (decLt (firstBad firstEdition here) 26) (getD (x .seen) (channelOf here) false) refl
+    step = go (decLt (firstBad firstEdition here) 26) (bit (x .seen) (channelOf here)) refl
       where
-        go : Dec (firstBad firstEdition here < 26) → (b : Bool) → getD (x .seen) (channelOf here) false ≡ b → Going start (i + 1) (looked x i here) ⊎ Halted (looked x i here)
+        go : Dec (firstBad firstEdition here < 26) → (b : Bool) → bit (x .seen) (channelOf here) ≡ b → Going start (i + 1) (looked x i here) ⊎ Halted (looked x i here)
         go (yes a) b e = inr (refused 9 (27 * i + firstBad firstEdition here) (omega arith) (turn-bad rs i a) (looked-bad x i here (g .number) (firstBad firstEdition here) refl a))
         go (no a) true e =
             let h : 26 ≤ firstBad firstEdition here = omega arith in
@@ -104,10 +106,10 @@ module _ (rs : List Record) where
             let h : 26 ≤ firstBad firstEdition here = omega arith in
             let low = channel-low here (firstBad firstEdition here) refl h in
             let fresh = sym (g .seen .each (channelOf here) low) ∙ e in
-            inl (rw (looked-on x i here (g .number) (firstBad firstEdition here) refl h (chunksSize (here .second)) e refl) (record {
+            inl (rw (looked-on x i here (g .number) (firstBad firstEdition here) refl h (chunksSize (here .second)) (bitOr (x .seen) (2 ^ channelOf here)) e refl refl) (record {
               number = refl;
               records = g .records;
-              seen = seen-next chan i (channelOf here) (x .seen) (g .seen) low refl;
+              seen = seen-next chan i (channelOf here) (x .seen) (g .seen) refl;
               size = omega (arith, g .size, sizes-next rs i l);
               rest = g .rest ∙ run-more turn i n l (turn-more rs i h fresh);
             }))

@@ -1,15 +1,17 @@
--- What the records looked at so far come to: a refusal, or which source channels they have and the group's length so far.
-use Prim.Native.Nat.{ℕ, zero, suc, _+_, _*_, _-_}
-use mathlib.Core.Bool.{true, false, cond, not}
+-- What the records looked at so far come to: a refusal, or which source channels they have (a bit for each) and the group's length so far.
+use Prim.Native.Nat.{ℕ, zero, suc, _+_, _*_, _-_, _^_}
+use mathlib.Core.Bool.{cond, not}
 use mathlib.Core.List.{List, [], _++_}
+use lib.Bits.{bitOr}
 use lib.Dec.{ltb, eqb}
-use lib.ListN.{length, getD, set, replicate}
+use lib.ListN.{length, getD}
 use Rattle.layout.specs.declared.answer.Measured.{Measured}
 use Rattle.layout.specs.declared.record.Record.{Record}
 use Rattle.layout.specs.declared.record.SecondTable.{SecondTable}
 use Rattle.layout.specs.declared.record.SecondTable.the-variants.{Absent, Value}
 use Rattle.layout.specs.Bytes.{CSEG, Sdec, four, chunk}
 use Rattle.layout.specs.Refusals.{accepted, badText, outOfRange, channelAgain, noRoom, badNumber}
+use Rattle.layout.specs.Plays.{bit}
 use Rattle.layout.specs.Ranges.{firstEdition}
 use Rattle.layout.specs.Records.{blank, channelOf, firstBad}
 use Rattle.layout.specs.Sdec.{soundText}
@@ -18,14 +20,14 @@ use Rattle.plan.specs.declared.Plan.{Plan}
 
 -- a refusal: no record is to be looked at
 unfoldable pub refusedAt : ℕ → ℕ → Checked
-refusedAt number place = record { number = number; place = place; records = 0; length = 0; seen = replicate 16 false }
+refusedAt number place = record { number = number; place = place; records = 0; length = 0; seen = 0 }
 
 -- before the first of the records of a lent table of so many: 16, then 8
 unfoldable pub begun : List ℕ → ℕ → ℕ → Checked
 begun text lent count =
     cond (ltb lent count) (refusedAt badNumber 0)
     (cond (not (soundText text)) (refusedAt badText 0)
-    (record { number = accepted; place = 0; records = count; length = 16 + length text; seen = replicate 16 false }))
+    (record { number = accepted; place = 0; records = count; length = 16 + length text; seen = 0 }))
 
 -- the bytes of a record's chunks: its Ctab, and its Cntt where it has one
 unfoldable pub chunksSize : SecondTable → ℕ
@@ -37,8 +39,8 @@ unfoldable pub looked : Checked → ℕ → Record → Checked
 looked x i r =
     cond (not (eqb (x .number) accepted)) x
     (cond (ltb (firstBad firstEdition r) 26) (refusedAt outOfRange (27 * i + firstBad firstEdition r))
-    (cond (getD (x .seen) (channelOf r) false) (refusedAt channelAgain (27 * i))
-    (record { number = accepted; place = 0; records = x .records; length = x .length + chunksSize (r .second); seen = set (x .seen) (channelOf r) true })))
+    (cond (bit (x .seen) (channelOf r)) (refusedAt channelAgain (27 * i))
+    (record { number = accepted; place = 0; records = x .records; length = x .length + chunksSize (r .second); seen = bitOr (x .seen) (2 ^ channelOf r) })))
 
 -- the first n records looked at
 unfoldable pub lookedAt : Checked → List Record → ℕ → Checked

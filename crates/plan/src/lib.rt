@@ -11,13 +11,13 @@ use record::held::bytes_of;
 use record::held::first_bad_of;
 
 // What the records looked at so far come to: a refusal, or how many are to be looked at in all, the group's length with those seen,
-// and which source channels they have.
+// and which source channels they have: bit k of `seen` is set where one has channel k.
 pub struct Checked {
     pub number: u8,
     pub place: usize,
     pub records: usize,
     pub length: usize,
-    pub seen: [bool; 16],
+    pub seen: u64,
 }
 
 // What writing comes to: the refusal, or how many records go into a group of so many bytes.
@@ -36,7 +36,7 @@ fn refused_at(number: u8, place: usize) -> Checked
         place: place,
         records: 0,
         length: 0,
-        seen: [false; 16],
+        seen: 0,
     }
 }
 
@@ -55,7 +55,7 @@ pub fn begin(text: &[u8], lent: usize, count: usize) -> Checked
         place: 0,
         records: count,
         length: 16 + text.len(),
-        seen: [false; 16],
+        seen: 0,
     }
 }
 
@@ -83,17 +83,15 @@ pub fn look_at_bytes(x: Checked, i: usize, b: &[u8], second: SecondTable) -> Che
         return refused_at(9, 27 * i + k);
     }
     let channel = b[0] as usize;
-    let mut seen = x.seen;
-    if seen[channel] {
+    if (x.seen >> channel) % 2 == 1 {
         return refused_at(10, 27 * i);
     }
-    seen[channel] = true;
     Checked {
         number: 0,
         place: 0,
         records: x.records,
         length: x.length + chunks_size(second),
-        seen: seen,
+        seen: x.seen | 1u64 << channel,
     }
 }
 

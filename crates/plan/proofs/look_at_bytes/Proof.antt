@@ -1,7 +1,8 @@
 use mathlib.Core.Path.{sym, _∙_}
 use native.Mathlib.Omega.{arith}
 use Rattle.layout.specs.Records.{channelOf, recordOf}
-use Rattle.plan.proofs.Looking.{looked-stays, looked-bad, channel-low, looked-again, looked-on, size-most}
+use Rattle.plan.proofs.Bits.{bit-set, bit-unset, or-shift}
+use Rattle.plan.proofs.Looking.{looked-stays, looked-bad, channel-shift, looked-again, looked-on, size-most}
 use borrow.Author.Needs.{needs}
 use Rattle.plan.proofs.look_at_bytes.Statement.{statement}
 use Rattle.plan.proofs.look_at_bytes.Tie as tie
@@ -30,9 +31,9 @@ shared-slice-read-channel c = search needs
 cast-channel : tie.Need-cast-channel
 cast-channel c = omega (arith, c .shared-slice-known2 .given 0)
 
-array-read-if3 : tie.Need-array-read-if3
+shr-if3 : tie.Need-shr-if3
 unfolding channelOf recordOf
-array-read-if3 c = channel-low _ _ (c .before .before .before .first-bad-of .ensures) (c .before .before .if2 .left)
+shr-if3 c = channel-shift _ _ (c .before .before .before .first-bad-of .ensures) (c .before .before .if2 .left)
 
 mul-refused-at-2 : tie.Need-mul-refused-at-2
 mul-refused-at-2 c = search needs
@@ -44,27 +45,29 @@ returns-3 : tie.Need-returns-3
 unfolding channelOf recordOf
 returns-3 c =
     let e = c .before .before .before .before in
-    c .refused-at2 .ensures ∙ sym (looked-again _ _ _ (e .before .before .if1 .left) _ (e .before .first-bad-of .ensures) (e .if2 .left) (c .before .if3 .taken))
-
-array-write-seen : tie.Need-array-write-seen
-unfolding channelOf recordOf
-array-write-seen c =
-    let e = c .before .before .before in
-    channel-low _ _ (e .before .first-bad-of .ensures) (e .if2 .left)
+    c .refused-at2 .ensures ∙ sym (looked-again _ _ _ (e .before .before .if1 .left) _ (e .before .first-bad-of .ensures) (e .if2 .left) (bit-set _ _ (c .before .if3 .taken)))
 
 chunks-size-requires : tie.Need-chunks-size-requires
 chunks-size-requires c κs = search needs
 
-add-t20 : tie.Need-add-t20
-add-t20 c =
+add-t17 : tie.Need-add-t17
+add-t17 c =
     let start = c .before .before .before .before .before .before .before .before .before .before in
     omega (arith, start .pre .1 .0, start .pre .1 .1, c .before .chunks-size .ensures, size-most (start .args .second))
+
+shl-t13 : tie.Need-shl-t13
+unfolding channelOf recordOf
+shl-t13 c =
+    let e = c .before .before .before .before .before in
+    channel-shift _ _ (e .before .first-bad-of .ensures) (e .if2 .left)
 
 returns-4 : tie.Need-returns-4
 unfolding channelOf recordOf
 returns-4 c =
-    let e = c .before .before .before .before .before in
-    sym (looked-on _ _ _ (e .before .before .if1 .left) _ (e .before .first-bad-of .ensures) (e .if2 .left) _ (c .before .before .if3 .left) (c .before .chunks-size .ensures))
+    let e = c .before .before .before .before .before .before in
+    sym
+    (looked-on _ _ _ (e .before .before .if1 .left) _ (e .before .first-bad-of .ensures) (e .if2 .left) _ _ (bit-unset _ _ (c .before .before .before .if3 .left)) (c .before .before .chunks-size .ensures)
+    (or-shift (e .before .before .before .before .before .args .x .seen) _ (channel-shift _ _ (e .before .first-bad-of .ensures) (e .if2 .left))))
 
 pub look-at-bytes-spec : {M : Type 1} → statement M
 look-at-bytes-spec =
@@ -78,11 +81,11 @@ look-at-bytes-spec =
     returns-2
     shared-slice-read-channel
     cast-channel
-    array-read-if3
+    shr-if3
     mul-refused-at-2
     refused-at-requires-2
     returns-3
-    array-write-seen
     chunks-size-requires
-    add-t20
+    add-t17
+    shl-t13
     returns-4)
