@@ -32,9 +32,9 @@ part-put-row-end c = search needs
 put-row-requires : tie.Need-put-row-requires Inv-loop μ-loop
 put-row-requires c κs =
     let l = c .before .before .before in
-    let pre = l .before .before .before .pre in (
+    let start = l .before .before .before in (
       search needs,
-      putting-room _ _ _ _ _ (pre .0) (pre .1) _ _ _ (l .loop .inv) (search needs) _ (search row-there),
+      putting-room _ _ _ _ _ (start .pre .0) (start .pre .1) _ _ _ (l .loop .inv) (search needs) _ (row-there (start .args .flat .now) (l .loop .i)),
     )
 
 add-i : tie.Need-add-i Inv-loop μ-loop
@@ -47,8 +47,8 @@ loop-again : tie.Need-loop-again Inv-loop μ-loop
 loop-again c =
     let p = c .before .before in
     let l = p .before .before .before .before in
-    let pre = l .before .before .before .pre in
-    putting-next _ _ _ _ _ (pre .0) (pre .1) _ _ _ (l .loop .inv) (search needs) _ (search row-there) _ _ (p .put-row .ensures .0) (p .put-row .ensures .1)
+    let start = l .before .before .before in
+    putting-next _ _ _ _ _ (start .pre .0) (start .pre .1) _ _ _ (l .loop .inv) (search needs) _ (row-there (start .args .flat .now) (l .loop .i)) _ _ (p .put-row .ensures .0) (p .put-row .ensures .1)
 
 same-length : tie.Need-same-length Inv-loop μ-loop
 same-length c =
