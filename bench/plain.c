@@ -270,8 +270,8 @@ casm_length plain_write(const uint8_t *text, size_t length, const uint8_t *table
 {
     casm_length r = {0};
     uint8_t seen[16] = {0};
-    size_t lent = bytes / 28 < 32 ? bytes / 28 : 32, size = 16 + length;
-    if (count > lent) return r.number = 16, r;
+    size_t size = 16 + length;
+    if (count > bytes / 28) return r.number = 16, r;
     if (!sound_text(text, length)) return r.number = 8, r;
     for (size_t i = 0; i < count; i++) {
         const uint8_t *b = table + 28 * i;

@@ -160,7 +160,7 @@ casm_answer casm_edit(unsigned char *body, unsigned long body_length, unsigned l
 casm_edited casm_field(casm_row row, unsigned long index, unsigned char value);
 
 /* Writes one group at the start of `out`, from its Sdec's text and the first `count` records of a flat table; later bytes are kept.
- * flat_length counts bytes: the table is its first flat_length / 28 records, and of them the first 32 at most.
+ * flat_length counts bytes: the table has flat_length / 28 records, however many, and bytes left over are not looked at.
  * Refusals: 16 where the count is above that; 8; per record 9, 10, at 27 times its number plus the byte; 14. */
 casm_length casm_write(
     const unsigned char *text, unsigned long text_length, const unsigned char *flat, unsigned long flat_length, unsigned long count, unsigned char *out,

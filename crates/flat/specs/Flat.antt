@@ -1,5 +1,5 @@
 -- Channel records as a flat table: 28 bytes each, bytes 0-25, whether there is a Cntt (0 for none) and the Cntt's value.
-use Prim.Native.Nat.{ℕ, _*_, _/_, min}
+use Prim.Native.Nat.{ℕ, _*_, _/_}
 use mathlib.Core.Path.{_≡_}
 use mathlib.Core.List.{List, [], _∷_, _++_, flatMap}
 use lib.ListN.{length, getD, take, drop}
@@ -11,9 +11,9 @@ use Rattle.layout.specs.declared.record.Record.{Record}
 use Rattle.layout.specs.declared.answer.Counted.{Counted}
 use Rattle.cross.specs.Rows.{secondOf, hasOf, valueOf}
 
--- how many records a table of so many bytes lends: what is left over is no record, and at most 32 are looked at
+-- how many records a table of so many bytes lends: what is left over is no record
 abbrev pub lentRows : ℕ → ℕ
-lentRows size = min (size / 28) 32
+lentRows size = size / 28
 
 -- the record that stands at the start
 unfoldable pub recordIn : List ℕ → Record

@@ -6,6 +6,5 @@ ghost use Rattle.flat.specs.Flat.{lentRows};
 pub fn row_count(size: usize) -> usize
     ensures { λ r. ⌜ r ≡ lentRows size ⌝ }
 {
-    let n = size / 28;
-    if n < 32 { n } else { 32 }
+    size / 28
 }

@@ -47,7 +47,7 @@ lent f n before (granted xs) e =
 
 module _ (body before : List ℕ) (group room : ℕ) (p : Reading) (e : room ≡ lentRows (length before)) (h : ReadingPlanned body group room p) where
   pub count-lent : 28 * p .count ≤ length before
-  count-lent = omega (arith, h .fits, rows-lent room (length before) e .1)
+  count-lent = omega (arith, h .fits, rows-lent room (length before) e)
 
   pub rows-read : (r : Counted) → r ≡ toldOf p → (after : List ℕ) → after ≡ laidFrom (planned body p) (p .count) (p .count) before → RowsRead body group before r after
   rows-read r t after q =
