@@ -77,6 +77,15 @@ typedef struct {
     unsigned long seconds;
 } casm_bounds;
 
+/* The record of a source channel in a group: its number among the group's records, counted from 0 in Ctab order, and the place of its byte 0
+ * in the body. The record's bytes 0-25 stand there, and behind them the end marker. */
+typedef struct {
+    unsigned char number;
+    unsigned long place;
+    unsigned long record;
+    unsigned long at;
+} casm_position;
+
 /* A part of the lent bytes. */
 typedef struct {
     unsigned char number;
@@ -131,6 +140,10 @@ casm_holder casm_part(const unsigned char *body, unsigned long body_length, cons
 /* Where a group and its parts stand.
  * Refusals: the body's; 16 where there is no such group. */
 casm_bounds casm_group(const unsigned char *body, unsigned long body_length, unsigned long group);
+
+/* Where the record of a group's source channel stands.
+ * Refusals: the body's; 16 where there is no such group; 15. */
+casm_position casm_channel(const unsigned char *body, unsigned long body_length, unsigned long group, unsigned char source);
 
 /* Fills `list` with the salvage list of a body, sound or damaged: three numbers an entry (place, length, kind), numbers past the last
  * entry kept. list_length counts numbers, not entries. 24,576 numbers are enough for any body.

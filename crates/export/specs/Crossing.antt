@@ -8,6 +8,7 @@ use Rattle.layout.specs.declared.answer.Located.{Located}
 use Rattle.layout.specs.declared.answer.Named.{Named}
 use Rattle.layout.specs.declared.answer.Standing.{Standing}
 use Rattle.layout.specs.declared.answer.Grouped.{Grouped}
+use Rattle.layout.specs.declared.answer.Channelled.{Channelled}
 use Rattle.layout.specs.declared.answer.Spanned.{Spanned}
 use Rattle.layout.specs.declared.answer.Played.{Played}
 use Rattle.layout.specs.declared.answer.Placed.{Placed}
@@ -18,6 +19,7 @@ use Rattle.export.specs.declared.answer.Length.{Length}
 use Rattle.export.specs.declared.answer.Section.{Section}
 use Rattle.export.specs.declared.answer.Holder.{Holder}
 use Rattle.export.specs.declared.answer.Bounds.{Bounds}
+use Rattle.export.specs.declared.answer.Position.{Position}
 use Rattle.export.specs.declared.answer.Span.{Span}
 use Rattle.export.specs.declared.answer.Players.{Players}
 use Rattle.export.specs.declared.answer.Note.{Note}
@@ -50,6 +52,10 @@ standing r = record { at = r .at; size = r .size; text = r .text; length = r .le
 -- one group
 abbrev pub grouped : Bounds → Grouped
 grouped r = record { number = r .number; place = r .place; group = standing r }
+
+-- the record of a source channel
+abbrev pub channelled : Position → Channelled
+channelled r = record { number = r .number; place = r .place; row = r .«record»; at = r .at }
 
 -- a part of the lent bytes
 abbrev pub spanned : Span → Spanned

@@ -57,6 +57,15 @@ pub struct Bounds {
     pub seconds: usize,
 }
 
+// The record of a source channel in a group: its number among the group's records, and the place of its byte 0 in the body.
+#[repr(C)]
+pub struct Position {
+    pub number: u8,
+    pub place: usize,
+    pub record: usize,
+    pub at: usize,
+}
+
 // A part of the lent bytes.
 #[repr(C)]
 pub struct Span {

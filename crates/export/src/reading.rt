@@ -1,10 +1,12 @@
 // Strict reading and the salvage list (document 01, "The CASM body" and "Salvage").
-ghost use Rattle.layout.specs.Promises.{CasmFound, BodyRead, PartFound, GroupFound, Salvaged};
-ghost use Rattle.export.specs.Crossing.{located, counted, named, grouped};
+ghost use Rattle.layout.specs.Promises.{CasmFound, BodyRead, PartFound, GroupFound, ChannelFound, Salvaged};
+ghost use Rattle.export.specs.Crossing.{located, counted, named, grouped, channelled};
 use crate::answer::Bounds;
 use crate::answer::Count;
 use crate::answer::Holder;
+use crate::answer::Position;
 use crate::answer::Section;
+use layout::record::SourceChannel;
 
 // Finds the CASM section of a style file: the place of its tag and the length of its body.
 #[no_mangle]
@@ -64,6 +66,20 @@ pub extern "C" fn casm_group(body: &[u8], group: usize) -> Bounds
         records: g.records,
         cntts: g.cntts,
         seconds: g.seconds,
+    }
+}
+
+// The record of a source channel in a group: its number among the group's records, and the place of its byte 0.
+#[no_mangle]
+pub extern "C" fn casm_channel(body: &[u8], group: usize, source: u8) -> Position
+    ensures { λ r. ⌜ ChannelFound (now (body .entry)) group source (channelled r) ⌝ }
+{
+    let x = casm::read::find_channel(body, group, SourceChannel(source));
+    Position {
+        number: x.number,
+        place: x.place,
+        record: x.row,
+        at: x.at,
     }
 }
 
