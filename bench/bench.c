@@ -70,7 +70,7 @@ static void prepare(void)
     for (size_t i = 0; i + 3 < sizeof none; i++)
         if (memcmp(none + i, "CSEG", 4) == 0) none[i] = 0;
     for (int i = 0; i < 16; i++) record(table + 28 * i, (uint8_t)i), table[28 * i + 26] = (uint8_t)(i % 2), table[28 * i + 27] = i % 2 ? 0x84 : 0;
-    for (int i = 0; i < 4096; i++) record(rows[i].bytes, (uint8_t)(i % 16)), rows[i].bytes[20] = 0, rows[i].has = i % 2, rows[i].second = i % 2 ? 0x81 : 0;
+    for (int i = 0; i < 4096; i++) record(rows[i].bytes, (uint8_t)(i % 16)), rows[i].bytes[20] = 0, rows[i].has_cntt = i % 2, rows[i].cntt = i % 2 ? 0x81 : 0;
 }
 
 /* ---- both sides of a job: one call each, its answer folded into a number that both must agree on */

@@ -243,9 +243,9 @@ casm_note plain_place(casm_row row, uint8_t root, uint8_t note)
     const uint8_t *b = row.bytes;
     if (root > 11 || note > 127) return r.number = 16, r;
     size_t k = first_out(b, 26);
-    if (k > 21 && row.has && !cntt_value(row.second)) k = 21;
+    if (k > 21 && row.has_cntt && !cntt_value(row.cntt)) k = 21;
     if (k < 26) return r.number = 9, r.place = k, r;
-    uint8_t table = row.has ? row.second : becomes[b[21]];
+    uint8_t table = row.has_cntt ? row.cntt : becomes[b[21]];
     int value = note;
     if (table != 0x00 && table != 0x80) {
         if (b[20]) return r.number = 17, r;

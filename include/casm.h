@@ -69,12 +69,12 @@ typedef struct {
     unsigned long place;
     unsigned long at;
     unsigned long size;
-    unsigned long text;
-    unsigned long length;
-    unsigned long ctabs;
+    unsigned long text_at;
+    unsigned long text_length;
+    unsigned long records_at;
     unsigned long records;
+    unsigned long cntts_at;
     unsigned long cntts;
-    unsigned long seconds;
 } casm_bounds;
 
 /* The record of a source channel in a group: its number among the group's records, counted from 0 in Ctab order, and the place of its byte 0
@@ -110,12 +110,12 @@ typedef struct {
     unsigned char note;
 } casm_note;
 
-/* A channel record: bytes 0-25 of its Ctab; `has` is 0 where it has no Cntt, and anything else where `second` is the Cntt's value.
- * It comes back with `has` 0 or 1, and `second` 0 where there is no Cntt. It is 28 bytes long: a table of them is a flat table. */
+/* A channel record: bytes 0-25 of its Ctab; `has_cntt` is 0 where it has no Cntt, and anything else where `cntt` is the Cntt's value.
+ * It comes back with `has_cntt` 0 or 1, and `cntt` 0 where there is no Cntt. It is 28 bytes long: a table of them is a flat table. */
 typedef struct {
     unsigned char bytes[26];
-    unsigned char has;
-    unsigned char second;
+    unsigned char has_cntt;
+    unsigned char cntt;
 } casm_row;
 
 /* A record after one field byte of it was set; on refusal the record as it was. */

@@ -28,19 +28,19 @@ module _ {A : Type 0} (d : A) where
   pub its-elements : (l : List A) (n : ℕ) → length l ≡ n → elements l 0 n ≡ l
   its-elements l n e = subst (λ (m : ℕ). elements l 0 m ≡ l) e (all l)
 
-pub second-absent : (has second : ℕ) → has ≡ 0 → Absent ≡ secondOf has second
+pub second-absent : (has cntt : ℕ) → has ≡ 0 → Absent ≡ secondOf has cntt
 unfolding secondOf
-second-absent has second h = sym (ap (λ (t : Bool). cond t Absent (Value second)) (eq-eqb has 0 h))
+second-absent has cntt h = sym (ap (λ (t : Bool). cond t Absent (Value cntt)) (eq-eqb has 0 h))
 
-pub second-there : (has second : ℕ) → (has ≡ 0 → ⊥) → Value second ≡ secondOf has second
+pub second-there : (has cntt : ℕ) → (has ≡ 0 → ⊥) → Value cntt ≡ secondOf has cntt
 unfolding secondOf
-second-there has second h = sym (ap (λ (t : Bool). cond t Absent (Value second)) (ne-eqb has 0 h))
+second-there has cntt h = sym (ap (λ (t : Bool). cond t Absent (Value cntt)) (ne-eqb has 0 h))
 
-pub row-absent : (r : Record) (b : List ℕ) → b ≡ bytesOf r → r .second ≡ Absent → record { bytes = b; has = 0; second = 0 } ≡ rowOf r
+pub row-absent : (r : Record) (b : List ℕ) → b ≡ bytesOf r → r .second ≡ Absent → record { bytes = b; «has_cntt» = 0; cntt = 0 } ≡ rowOf r
 unfolding rowOf hasOf valueOf
 row-absent r b e h = rw (e, h)
 
-pub row-there : (r : Record) (b : List ℕ) (v : ℕ) → b ≡ bytesOf r → r .second ≡ Value v → record { bytes = b; has = 1; second = v } ≡ rowOf r
+pub row-there : (r : Record) (b : List ℕ) (v : ℕ) → b ≡ bytesOf r → r .second ≡ Value v → record { bytes = b; «has_cntt» = 1; cntt = v } ≡ rowOf r
 unfolding rowOf hasOf valueOf
 row-there r b v e h = rw (e, h)
 

@@ -15,11 +15,11 @@ channel n = record { 0 = n }
 
 -- the second table of a record: none where the first number is 0, whatever the other is
 unfoldable pub secondOf : ℕ → ℕ → SecondTable
-secondOf has second = cond (eqb has 0) Absent (Value second)
+secondOf has cntt = cond (eqb has 0) Absent (Value cntt)
 
 -- the record that crosses
 abbrev pub recorded : Row → Record
-recorded r = recordOf (r .bytes) (secondOf (r .has) (r .second))
+recorded r = recordOf (r .bytes) (secondOf (r .«has_cntt») (r .cntt))
 
 -- whether a second table is there
 unfoldable pub hasOf : SecondTable → ℕ
@@ -33,4 +33,4 @@ valueOf (Value v) = v
 
 -- a record as it crosses back
 unfoldable pub rowOf : Record → Row
-rowOf r = record { bytes = bytesOf r; has = hasOf (r .second); second = valueOf (r .second) }
+rowOf r = record { bytes = bytesOf r; «has_cntt» = hasOf (r .second); cntt = valueOf (r .second) }

@@ -9,18 +9,18 @@ use layout::record::SecondTable;
 #[repr(C)]
 pub struct Row {
     pub bytes: [u8; 26],
-    pub has: u8,
-    pub second: u8,
+    pub has_cntt: u8,
+    pub cntt: u8,
 }
 
-// The second table: none where `has` is 0.
-pub fn second_of(has: u8, second: u8) -> SecondTable
-    ensures { λ r. ⌜ r ≡ secondOf has second ⌝ }
+// The second table: none where `has_cntt` is 0.
+pub fn second_of(has_cntt: u8, cntt: u8) -> SecondTable
+    ensures { λ r. ⌜ r ≡ secondOf «has_cntt» cntt ⌝ }
 {
-    if has == 0 {
+    if has_cntt == 0 {
         return SecondTable::Absent;
     }
-    SecondTable::Value(second)
+    SecondTable::Value(cntt)
 }
 
 // The record of 26 bytes and a second table.
@@ -35,7 +35,7 @@ pub fn record_of(row: Row) -> Record
     ensures { λ r. ⌜ r ≡ recorded row ⌝ }
 {
     let bytes = row.bytes;
-    made(bytes, second_of(row.has, row.second))
+    made(bytes, second_of(row.has_cntt, row.cntt))
 }
 
 // A record as it crosses.
@@ -47,13 +47,13 @@ pub fn row_of(from: Record) -> Row
     match second {
         SecondTable::Absent => Row {
             bytes: bytes,
-            has: 0,
-            second: 0,
+            has_cntt: 0,
+            cntt: 0,
         },
         SecondTable::Value(v) => Row {
             bytes: bytes,
-            has: 1,
-            second: v,
+            has_cntt: 1,
+            cntt: v,
         },
     }
 }

@@ -1,4 +1,4 @@
--- What crosses to C, as the answers of the layout: field by field the same.
+-- What crosses to C, as the answers of the layout: field by field the same, under the names of include/casm.h.
 use mathlib.Core.List.{map}
 use Rattle.cross.specs.Rows.{channel, rowOf}
 use Rattle.layout.specs.declared.answer.Answered.{Answered}
@@ -47,7 +47,17 @@ named r = record { number = r .number; place = r .place; group = r .group }
 
 -- where a group and its parts stand
 abbrev pub standing : Bounds → Standing
-standing r = record { at = r .at; size = r .size; text = r .text; length = r .length; ctabs = r .ctabs; records = r .records; cntts = r .cntts; seconds = r .seconds }
+standing r =
+    record {
+      at = r .at;
+      size = r .size;
+      text = r .«text_at»;
+      length = r .«text_length»;
+      ctabs = r .«records_at»;
+      records = r .records;
+      cntts = r .«cntts_at»;
+      seconds = r .cntts;
+    }
 
 -- one group
 abbrev pub grouped : Bounds → Grouped

@@ -49,12 +49,12 @@ pub struct Bounds {
     pub place: usize,
     pub at: usize,
     pub size: usize,
-    pub text: usize,
-    pub length: usize,
-    pub ctabs: usize,
+    pub text_at: usize,
+    pub text_length: usize,
+    pub records_at: usize,
     pub records: usize,
+    pub cntts_at: usize,
     pub cntts: usize,
-    pub seconds: usize,
 }
 
 // The record of a source channel in a group: its number among the group's records, and the place of its byte 0 in the body.

@@ -60,12 +60,12 @@ pub extern "C" fn casm_group(body: &[u8], group: usize) -> Bounds
         place: x.place,
         at: g.at,
         size: g.size,
-        text: g.text,
-        length: g.length,
-        ctabs: g.ctabs,
+        text_at: g.text,
+        text_length: g.length,
+        records_at: g.ctabs,
         records: g.records,
-        cntts: g.cntts,
-        seconds: g.seconds,
+        cntts_at: g.cntts,
+        cntts: g.seconds,
     }
 }
 

@@ -33,7 +33,7 @@ stored-twice b old h s e l =
     ∙ (append-snoc b h (s ∷ drop 28 old) ∙ sym (append-assoc b (h ∷ s ∷ []) (drop 28 old)))))))
 
 stored-of : (r : Record) (old : List ℕ) → 28 ≤ length old
-    → set (set (rowOf r .bytes ++ drop 26 old) 26 (rowOf r .has)) 27 (rowOf r .second) ≡ rowBytes r ++ drop 28 old
+    → set (set (rowOf r .bytes ++ drop 26 old) 26 (rowOf r .«has_cntt»)) 27 (rowOf r .cntt) ≡ rowBytes r ++ drop 28 old
 unfolding rowOf rowBytes
 stored-of r old l = stored-twice (bytesOf r) old (hasOf (r .second)) (valueOf (r .second)) (bytes-length r) l
 
@@ -45,10 +45,10 @@ pub row-width : (r : Record) (row : Row) → row ≡ rowOf r → length (row .by
 row-width r row e = ap (λ (x : Row). length (x .bytes)) e ∙ row-bytes-length r
 
 pub row-stored : (r : Record) (row : Row) (xs old : List ℕ) → row ≡ rowOf r → 28 ≤ length old → xs ≡ row .bytes ++ drop (length (row .bytes)) old
-    → set (set xs 26 (row .has)) 27 (row .second) ≡ rowBytes r ++ drop 28 old
+    → set (set xs 26 (row .«has_cntt»)) 27 (row .cntt) ≡ rowBytes r ++ drop 28 old
 row-stored r row xs old e l q =
-    ap (λ (t : List ℕ). set (set t 26 (row .has)) 27 (row .second)) (q ∙ ap (λ (k : ℕ). row .bytes ++ drop k old) (row-width r row e))
-    ∙ (ap (λ (x : Row). set (set (x .bytes ++ drop 26 old) 26 (x .has)) 27 (x .second)) e ∙ stored-of r old l)
+    ap (λ (t : List ℕ). set (set t 26 (row .«has_cntt»)) 27 (row .cntt)) (q ∙ ap (λ (k : ℕ). row .bytes ++ drop k old) (row-width r row e))
+    ∙ (ap (λ (x : Row). set (set (x .bytes ++ drop 26 old) 26 (x .«has_cntt»)) 27 (x .cntt)) e ∙ stored-of r old l)
 
 -- ---- one behind the other
 

@@ -20,8 +20,8 @@ fn put_row(out: &mut [u8], r: Record)
     let row = row_of(r);
     let b = row.bytes;
     write::put::put_bytes(out, &b);
-    out[26] = row.has;
-    out[27] = row.second;
+    out[26] = row.has_cntt;
+    out[27] = row.cntt;
 }
 
 // Fills a lent flat table with the records of a group, up to their count, and answers how many there are; later bytes are kept.
