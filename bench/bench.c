@@ -40,7 +40,7 @@ static uint8_t sound[32768], damaged[32768], small[32768], csegs[32768], none[32
 static size_t sound_size, small_size, sound_half, small_half;
 static uint8_t few[1048576], half_few[1048576], many[1048576], half_many[1048576];
 static size_t list[2][24579];
-static uint8_t table[16 * 28], buffer[2][2048];
+static uint8_t table[40 * 28], buffer[2][2048];
 static casm_row rows[4096];
 static size_t sections = 2000;
 
@@ -70,6 +70,7 @@ static void prepare(void)
     for (size_t i = 0; i + 3 < sizeof none; i++)
         if (memcmp(none + i, "CSEG", 4) == 0) none[i] = 0;
     for (int i = 0; i < 16; i++) record(table + 28 * i, (uint8_t)i), table[28 * i + 26] = (uint8_t)(i % 2), table[28 * i + 27] = i % 2 ? 0x84 : 0;
+    memcpy(table + 16 * 28, table, 16 * 28), memcpy(table + 32 * 28, table, 8 * 28);
     for (int i = 0; i < 4096; i++) record(rows[i].bytes, (uint8_t)(i % 16)), rows[i].bytes[20] = 0, rows[i].has_cntt = i % 2, rows[i].cntt = i % 2 ? 0x81 : 0;
 }
 
@@ -134,14 +135,14 @@ static void alike_damaged(const char *job, const uint8_t *from, size_t size, uin
     }
 }
 
-/* Writing from damaged tables, some of them too short. */
+/* Writing from damaged tables, some of them too short for the count, some with more records than a group may have. */
 static void alike_written(int times)
 {
     uint8_t kept[sizeof table];
     memcpy(kept, table, sizeof table);
     for (int i = 0; i < times; i++, memcpy(table, kept, sizeof table)) {
         for (unsigned k = 0, n = any(3); k < n; k++) table[any(sizeof table)] = (uint8_t)any(256);
-        written = any(3) ? 16 : any(20);
+        written = any(3) ? 16 : any(44);
         alike("write", write_proved, write_plain);
     }
     written = 16;
@@ -229,6 +230,7 @@ static void stack(const char *name, uint64_t (*call)(void))
 /* The calls that are not timed, for their stack. */
 static uint64_t part_proved(void) { return casm_part(in, in_size, (const uint8_t *)"Part B5 n 00003", 15).group; }
 static uint64_t group_proved(void) { return casm_group(in, in_size, 15).number; }
+static uint64_t channel_proved(void) { return casm_channel(in, in_size, 15, 7).at; }
 static uint64_t voice_proved(void) { return casm_voice(in, in_size, 15, 7).number; }
 static uint64_t note_proved(void) { return casm_place(rows[7], 7, 60).note; }
 static uint64_t field_proved(void) { return casm_field(rows[7], 1, 65).number; }
@@ -276,6 +278,7 @@ static void stacks(void)
     stack("casm_salvage", salvage_proved);
     stack("casm_part", part_proved);
     stack("casm_group", group_proved);
+    stack("casm_channel", channel_proved);
     stack("casm_voice", voice_proved);
     stack("casm_plays", plays_proved);
     stack("casm_edit", edit_proved);

@@ -1,53 +1,60 @@
-/* plays FILE PART ROOT TYPE: who plays in a style file for a part, a chord root (0-11) and a chord type (0-33).
+/* plays FILE PART ROOT TYPE: who plays in a style file for a part, a chord root (0-11, C is 0) and a chord type (0-33).
  *
  * rt staticlib export && cc -Iinclude examples/plays.c target/staticlib/libexport.a -o plays    (x86-64 Linux)
  *
- * With the kit's clang, here or on Arm: examples/build. The kit has no headers of the C library, so what is used of it is declared here. */
-#include "casm.h"
+ * With the kit's clang, here or on Arm: examples/build. */
+#include "style.h"
 
-int printf(const char *format, ...);
-int atoi(const char *text);
-unsigned long strlen(const char *text);
-int open(const char *name, int flags, ...);
-long read(int from, void *into, unsigned long count);
-
-/* A byte more than a style file may have, so that a longer one is refused as such. */
-static unsigned char file[1048577];
-
-static int refused(const char *what, int number, unsigned long place) {
-    printf("%s refused: %d at %lu\n", what, number, place);
-    return 1;
+/* A whole decimal number up to 255, or -1. The calls take a byte and refuse one that is too large; but 256 made a byte is 0, and would be
+ * answered as 0. So a number from outside is looked at before it is narrowed. */
+static int byte_of(const char *text) {
+    int number = 0;
+    if (*text == 0)
+        return -1;
+    for (; *text != 0; text++) {
+        if (*text < '0' || *text > '9')
+            return -1;
+        number = 10 * number + (*text - '0');
+        if (number > 255)
+            return -1;
+    }
+    return number;
 }
 
 int main(int count, char **words) {
-    if (count != 5) {
+    int root = count == 5 ? byte_of(words[3]) : -1;
+    int type = count == 5 ? byte_of(words[4]) : -1;
+    if (root < 0 || type < 0) {
         printf("usage: plays FILE PART ROOT TYPE\n");
         return 2;
     }
-    int from = open(words[1], 0);
-    if (from < 0) {
-        printf("cannot open %s\n", words[1]);
+    unsigned long length;
+    if (!read_file(words[1], &length))
         return 2;
-    }
-    unsigned long length = 0;
-    long got;
-    while (length < sizeof file && (got = read(from, file + length, sizeof file - length)) > 0)
-        length += (unsigned long)got;
 
+    /* The section, and the body behind its tag and length. */
     casm_section section = casm_find(file, length);
-    if (section.number != 0)
-        return refused("the file is", section.number, section.place);
+    if (section.number != CASM_ACCEPTED)
+        return refused(words[1], section.number, section.place);
     const unsigned char *body = file + section.tag + 8;
     printf("CASM at %lu, %lu bytes\n", section.tag, section.length);
 
+    /* The question. A body that is damaged anywhere is refused here: salvage.c shows what to do then. */
     const unsigned char *part = (const unsigned char *)words[2];
-    casm_players players = casm_plays(body, section.length, part, strlen(words[2]), (unsigned char)atoi(words[3]), (unsigned char)atoi(words[4]));
-    if (players.number != 0)
-        return refused("the question is", players.number, players.place);
-    casm_holder holder = casm_part(body, section.length, part, strlen(words[2]));
+    unsigned long part_length = strlen(words[2]);
+    casm_players players = casm_plays(body, section.length, part, part_length, (unsigned char)root, (unsigned char)type);
+    if (players.number != CASM_ACCEPTED)
+        return refused("the question", players.number, players.place);
+    casm_holder holder = casm_part(body, section.length, part, part_length);
+    if (holder.number != CASM_ACCEPTED)
+        return refused("the part", holder.number, holder.place);
     printf("%s, group %lu: %lu play\n", words[2], holder.group, players.count);
+
+    /* The voice names stand in the body: they are shown from there, and not copied. */
     for (unsigned long i = 0; i < players.count; i++) {
         casm_span voice = casm_voice(body, section.length, holder.group, players.channels[i]);
+        if (voice.number != CASM_ACCEPTED)
+            return refused("the voice", voice.number, voice.place);
         printf("channel %d %.*s\n", players.channels[i], (int)voice.length, (const char *)body + voice.start);
     }
     return 0;

@@ -1,8 +1,9 @@
 /* The CASM library for C, on x86-64 Linux: `rt staticlib export` proves it and writes target/staticlib/libexport.a.
  *
  * Every call takes every input: no number, length or content of what is lent is wrong, and what cannot be done is refused.
- * An answer carries a number and a place. Number 0 accepts, at place 0. Any other number refuses, and then counts, lengths and
- * every other field are 0, and lent memory is as it was. Places are counted from the start of the bytes that were lent.
+ * An answer carries a number and a place. Number 0 accepts, at place 0. Any other number refuses; then every other field of the answer is 0
+ * and lent memory is as it was. One field is not 0 then: `held` of casm_field is the record as it was, because the editing screen goes on
+ * showing it. A place is counted from the start of the bytes that were lent; in a record that is handed over it is the byte of the record.
  *
  *    1  not a style file                            10  a channel's second Ctab or Cntt
  *    2  a chunk is cut off                          11  a Cntt without its Ctab, or out of order
@@ -17,11 +18,51 @@
  * What a caller owes, since C checks none of it: a pointer and its length name memory that is there for the whole call, that nothing
  * else writes meanwhile and, where it is lent to be written (no const), that overlaps nothing else that is lent to the same call.
  * Where the length is 0 the pointer is not looked at: NULL will do. Elsewhere it may not be NULL.
- * No call keeps a pointer, and none allocates memory, reads or writes files, or has a state of its own.
  *
- * `unsigned long` is size_t here and `unsigned char` uint8_t. The header needs no other header. */
+ * No call keeps a pointer, and none allocates memory, reads or writes files, or has a state of its own. So every call is thread-safe: calls
+ * may run at the same time, on the same bytes too where none of them writes these. CASM_MAX_STACK bytes of stack are enough for any call:
+ * this is measured (bench/run prints it for each) and not proved.
+ *
+ * `unsigned long` is size_t here and `unsigned char` uint8_t. The header needs no other header; C99 and C++ take it. */
 #ifndef CASM_H
 #define CASM_H
+
+/* The version of this header and of the archive that belongs to it. With the same major number nothing that stands here changes: no name,
+ * no field, no size, no number, and no answer to any input. A minor number adds calls or constants. */
+#define CASM_VERSION_MAJOR 1
+#define CASM_VERSION_MINOR 0
+
+/* The numbers of refusal. */
+#define CASM_ACCEPTED 0
+#define CASM_NOT_A_STYLE_FILE 1
+#define CASM_CUT_OFF 2
+#define CASM_OVER_LIMIT 3
+#define CASM_TAG_AGAIN 4
+#define CASM_NO_CASM 5
+#define CASM_BAD_TAG 6
+#define CASM_BAD_SIZE 7
+#define CASM_BAD_TEXT 8
+#define CASM_OUT_OF_RANGE 9
+#define CASM_CHANNEL_AGAIN 10
+#define CASM_STRAY_CNTT 11
+#define CASM_TOO_MANY_GROUPS 12
+#define CASM_NAME_AGAIN 13
+#define CASM_NO_ROOM 14
+#define CASM_NOT_THERE 15
+#define CASM_BAD_NUMBER 16
+#define CASM_ROOT_FIXED 17
+
+/* The limits, and what is enough for any answer. */
+#define CASM_MAX_FILE 1048576   /* bytes of a style file */
+#define CASM_MAX_BODY 32768     /* bytes of a CASM body */
+#define CASM_MAX_GROUPS 32      /* groups of a body */
+#define CASM_MAX_GROUP_SIZE 991 /* bytes of a group that casm_write writes: 16 for two headers, a text, and 45 for each record */
+#define CASM_MAX_RECORDS 16     /* records of a group */
+#define CASM_MAX_TEXT 255       /* bytes of an Sdec's text */
+#define CASM_MAX_NAME 16        /* bytes of a part name */
+#define CASM_MAX_LIST 24576     /* numbers of a salvage list, three an entry */
+#define CASM_MAX_STACK 4096     /* bytes of stack of a call */
+#define CASM_ROW_SIZE 28        /* bytes of a record in a flat table */
 
 #ifdef __cplusplus
 extern "C" {
@@ -111,14 +152,17 @@ typedef struct {
 } casm_note;
 
 /* A channel record: bytes 0-25 of its Ctab; `has_cntt` is 0 where it has no Cntt, and anything else where `cntt` is the Cntt's value.
- * It comes back with `has_cntt` 0 or 1, and `cntt` 0 where there is no Cntt. It is 28 bytes long: a table of them is a flat table. */
+ * It comes back with `has_cntt` 0 or 1, and `cntt` 0 where there is no Cntt. A flat table is an array of them. */
 typedef struct {
     unsigned char bytes[26];
     unsigned char has_cntt;
     unsigned char cntt;
 } casm_row;
 
-/* A record after one field byte of it was set; on refusal the record as it was. */
+/* A row is its 28 bytes and nothing between them, or this does not compile. */
+typedef char casm_row_has_its_size[sizeof(casm_row) == CASM_ROW_SIZE ? 1 : -1];
+
+/* A record after one field byte of it was set; on refusal the record as it was, to be shown on. */
 typedef struct {
     unsigned char number;
     unsigned long place;
@@ -146,7 +190,7 @@ casm_bounds casm_group(const unsigned char *body, unsigned long body_length, uns
 casm_position casm_channel(const unsigned char *body, unsigned long body_length, unsigned long group, unsigned char source);
 
 /* Fills `list` with the salvage list of a body, sound or damaged: three numbers an entry (place, length, kind), numbers past the last
- * entry kept. list_length counts numbers, not entries. 24,576 numbers are enough for any body.
+ * entry kept. list_length counts numbers, not entries. CASM_MAX_LIST numbers are enough for any body.
  * Refusals: 3; 14. */
 casm_count casm_salvage(const unsigned char *body, unsigned long body_length, unsigned long *list, unsigned long list_length);
 
@@ -180,9 +224,20 @@ casm_length casm_write(
     unsigned long out_length);
 
 /* Fills a flat table with the records of a group and answers how many there are; later bytes are kept. flat_length counts bytes: there
- * is room for flat_length / 28 records, and 16 are enough for any group.
+ * is room for flat_length / 28 records, and CASM_MAX_RECORDS are enough for any group.
  * Refusals: the body's; 16 where there is no such group; 14. */
 casm_count casm_records(const unsigned char *body, unsigned long body_length, unsigned long group, unsigned char *flat, unsigned long flat_length);
+
+/* casm_write from `count` rows. Refusals: casm_write's; 16 only for a count of rows that no memory holds. */
+static inline casm_length casm_write_rows(
+    const unsigned char *text, unsigned long text_length, const casm_row *rows, unsigned long count, unsigned char *out, unsigned long out_length) {
+    return casm_write(text, text_length, (const unsigned char *)rows, count * CASM_ROW_SIZE, count, out, out_length);
+}
+
+/* casm_records into room for `room` rows. */
+static inline casm_count casm_read_rows(const unsigned char *body, unsigned long body_length, unsigned long group, casm_row *rows, unsigned long room) {
+    return casm_records(body, body_length, group, (unsigned char *)rows, room * CASM_ROW_SIZE);
+}
 
 #ifdef __cplusplus
 }

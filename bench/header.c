@@ -1,0 +1,341 @@
+/* That include/casm.h fits the archive is shown by no proof, so it is tried: every call and wrapper, on inputs whose answers document 01 gives.
+ * bench/header builds this as C99 and as C++ and runs it. Each test that fails is printed by its name, and the program then ends with status 1. */
+#include "casm.h"
+
+#ifdef __cplusplus
+extern "C" {
+#endif
+int printf(const char *format, ...);
+int memcmp(const void *a, const void *b, unsigned long size);
+void *memcpy(void *to, const void *from, unsigned long size);
+void *memset(void *to, int value, unsigned long size);
+#ifdef __cplusplus
+}
+#endif
+
+static int tests, failed;
+
+static void test(const char *name, int holds) {
+    tests++;
+    if (!holds) {
+        failed++;
+        printf("failed: %s\n", name);
+    }
+}
+
+static const unsigned char *bytes(const char *text) { return (const unsigned char *)text; }
+
+/* ---- what the tests are made on */
+
+/* Document 01's M: one group, "Main A". */
+enum { M_SIZE = 22 };
+static const unsigned char M[M_SIZE + 1] = "CSEG\0\0\0\16Sdec\0\0\0\6Main A";
+
+/* Its example for `list`: a style file whose body is M and a byte 00. */
+enum { STYLE_SIZE = 57, STYLE_TAG = 26, STYLE_BODY = 23 };
+static const unsigned char style[STYLE_SIZE + 1] = "MThd\0\0\0\6\0\0\0\1\0\140MTrk\0\0\0\4\0\377/\0CASM\0\0\0\27CSEG\0\0\0\16Sdec\0\0\0\6Main A";
+
+/* A record as in example 12: it plays under every chord, table 01, high key 5, notes 0-127. Its voice is "Bass". */
+static casm_row record(unsigned char channel) {
+    casm_row row;
+    memset(&row, 0, sizeof row);
+    row.bytes[0] = channel;
+    memcpy(row.bytes + 1, "Bass    ", 8);
+    row.bytes[9] = 8;
+    row.bytes[11] = 0x0F;
+    row.bytes[12] = 0xFF;
+    row.bytes[13] = 0x03;
+    memset(row.bytes + 14, 0xFF, 4);
+    row.bytes[21] = 1;
+    row.bytes[22] = 5;
+    row.bytes[24] = 127;
+    return row;
+}
+
+static casm_row with_cntt(unsigned char channel, unsigned char cntt) {
+    casm_row row = record(channel);
+    row.has_cntt = 1;
+    row.cntt = cntt;
+    return row;
+}
+
+/* A body of one group: channels 3, 0 and 7, of which channel 0 has a Cntt. */
+enum { BODY_SIZE = M_SIZE + 3 * 35 + 10 };
+static casm_row three[3];
+static unsigned char body[CASM_MAX_GROUP_SIZE];
+
+static void prepare(void) {
+    three[0] = record(3);
+    three[1] = with_cntt(0, 0x81);
+    three[2] = record(7);
+    memset(body, 0xEE, sizeof body);
+    casm_length length = casm_write(bytes("Main A"), 6, (const unsigned char *)three, sizeof three, 3, body, sizeof body);
+    test("write: three records, one with a Cntt", length.number == CASM_ACCEPTED && length.place == 0 && length.length == BODY_SIZE);
+    test("write: later bytes are kept", body[BODY_SIZE] == 0xEE);
+}
+
+/* ---- reading */
+
+static void test_find(void) {
+    casm_section section = casm_find(style, STYLE_SIZE);
+    test("find: the example of `list`", section.number == CASM_ACCEPTED && section.tag == STYLE_TAG && section.length == STYLE_BODY);
+    section = casm_find(style, STYLE_TAG);
+    test("find: no section at all", section.number == CASM_NO_CASM && section.place == STYLE_TAG && section.tag == 0 && section.length == 0);
+    section = casm_find(0, 0);
+    test("find: no bytes", section.number == CASM_NOT_A_STYLE_FILE && section.place == 0 && section.tag == 0 && section.length == 0);
+}
+
+static void test_body(void) {
+    unsigned char twice[2 * M_SIZE];
+    memcpy(twice, M, M_SIZE);
+    memcpy(twice + M_SIZE, M, M_SIZE);
+    casm_count groups = casm_body(0, 0);
+    test("body: example 1, empty", groups.number == CASM_ACCEPTED && groups.place == 0 && groups.count == 0);
+    groups = casm_body(M, M_SIZE);
+    test("body: example 2, M", groups.number == CASM_ACCEPTED && groups.place == 0 && groups.count == 1);
+    groups = casm_body(M, 7);
+    test("body: example 3, 7 bytes of M", groups.number == CASM_CUT_OFF && groups.place == 0 && groups.count == 0);
+    groups = casm_body(twice, sizeof twice);
+    test("body: example 7, M M", groups.number == CASM_NAME_AGAIN && groups.place == M_SIZE && groups.count == 0);
+}
+
+static void test_part(void) {
+    casm_holder holder = casm_part(body, BODY_SIZE, bytes("Main A"), 6);
+    test("part: there", holder.number == CASM_ACCEPTED && holder.group == 0);
+    holder = casm_part(body, BODY_SIZE, bytes("Main B"), 6);
+    test("part: not there", holder.number == CASM_NOT_THERE && holder.place == 0 && holder.group == 0);
+}
+
+static void test_group(void) {
+    casm_bounds bounds = casm_group(body, BODY_SIZE, 0);
+    test("group: accepted, all of the body", bounds.number == CASM_ACCEPTED && bounds.at == 0 && bounds.size == BODY_SIZE);
+    test("group: its text", bounds.text_at == 16 && bounds.text_length == 6);
+    test("group: its records", bounds.records_at == M_SIZE && bounds.records == 3);
+    test("group: its Cntts", bounds.cntts_at == M_SIZE + 3 * 35 && bounds.cntts == 1);
+    bounds = casm_group(body, BODY_SIZE, 1);
+    test("group: no such group", bounds.number == CASM_BAD_NUMBER && bounds.place == 0 && bounds.size == 0 && bounds.cntts == 0);
+}
+
+static void test_channel(void) {
+    casm_position position = casm_channel(body, BODY_SIZE, 0, 7);
+    test("channel: its record is number 2", position.number == CASM_ACCEPTED && position.place == 0 && position.record == 2);
+    test("channel: its byte 0 stands there", position.at == M_SIZE + 2 * 35 + 8 && memcmp(body + position.at, three[2].bytes, 26) == 0);
+    position = casm_channel(body, BODY_SIZE, 0, 4);
+    test("channel: not there", position.number == CASM_NOT_THERE && position.place == 0 && position.record == 0 && position.at == 0);
+    position = casm_channel(body, BODY_SIZE, 1, 7);
+    test("channel: no such group", position.number == CASM_BAD_NUMBER && position.place == 0 && position.at == 0);
+    position = casm_channel(body, BODY_SIZE - 1, 0, 7);
+    test("channel: a body that is cut", position.number == CASM_CUT_OFF && position.at == 0);
+}
+
+static void test_salvage(void) {
+    const unsigned long wanted[7] = {0, 22, 0, 22, 1, 6, 9};
+    unsigned long list[7] = {9, 9, 9, 9, 9, 9, 9};
+    casm_count entries = casm_salvage(style + STYLE_TAG + 8, STYLE_BODY, list, 5);
+    test("salvage: too little room", entries.number == CASM_NO_ROOM && entries.count == 0);
+    test("salvage: the list is as it was", list[0] == 9 && list[5] == 9);
+    entries = casm_salvage(style + STYLE_TAG + 8, STYLE_BODY, list, 7);
+    test("salvage: example 8", entries.number == CASM_ACCEPTED && entries.count == 2 && memcmp(list, wanted, sizeof wanted) == 0);
+    entries = casm_salvage(0, 0, 0, 0);
+    test("salvage: nothing lent", entries.number == CASM_ACCEPTED && entries.count == 0);
+}
+
+/* ---- the questions */
+
+static void test_plays(void) {
+    casm_players players = casm_plays(body, BODY_SIZE, bytes("Main A"), 6, 11, 33);
+    test("plays: three", players.number == CASM_ACCEPTED && players.count == 3);
+    test("plays: in Ctab order, then 0", players.channels[0] == 3 && players.channels[1] == 0 && players.channels[2] == 7 && players.channels[3] == 0);
+    players = casm_plays(body, BODY_SIZE, bytes("Main B"), 6, 11, 33);
+    test("plays: no such part", players.number == CASM_NOT_THERE && players.count == 0);
+    players = casm_plays(body, BODY_SIZE, bytes("Main A"), 6, 12, 33);
+    test("plays: no such root", players.number == CASM_BAD_NUMBER && players.count == 0);
+}
+
+static void test_voice(void) {
+    casm_span voice = casm_voice(body, BODY_SIZE, 0, 7);
+    test("voice: without its spaces", voice.number == CASM_ACCEPTED && voice.length == 4 && memcmp(body + voice.start, "Bass", 4) == 0);
+    voice = casm_voice(body, BODY_SIZE, 0, 4);
+    test("voice: no such channel", voice.number == CASM_NOT_THERE && voice.start == 0 && voice.length == 0);
+}
+
+static void test_place(void) {
+    casm_row row = record(0);
+    casm_note note = casm_place(row, 5, 60);
+    test("place: example 12, root 5", note.number == CASM_ACCEPTED && !note.silent && note.note == 65);
+    note = casm_place(row, 6, 60);
+    test("place: example 12, root 6", note.number == CASM_ACCEPTED && !note.silent && note.note == 54);
+    note = casm_place(row, 12, 60);
+    test("place: no such root", note.number == CASM_BAD_NUMBER && note.place == 0);
+    row.bytes[23] = 127;
+    note = casm_place(row, 0, 8);
+    test("place: example 15, silence", note.number == CASM_ACCEPTED && note.silent == 1 && note.note == 0);
+    row.bytes[24] = 200;
+    note = casm_place(row, 0, 60);
+    test("place: a byte out of range", note.number == CASM_OUT_OF_RANGE && note.place == 24);
+    note = casm_place(with_cntt(0, 0x7F), 0, 60);
+    test("place: a bad Cntt counts as byte 21", note.number == CASM_OUT_OF_RANGE && note.place == 21);
+    row = record(0);
+    row.bytes[20] = 1;
+    note = casm_place(row, 0, 60);
+    test("place: root fixed", note.number == CASM_ROOT_FIXED && note.place == 0);
+    row.cntt = 0x80;
+    test("place: no Cntt where has_cntt is 0", casm_place(row, 0, 60).number == CASM_ROOT_FIXED);
+    row.has_cntt = 7;
+    test("place: a Cntt where has_cntt is anything else", casm_place(row, 0, 60).note == 60);
+}
+
+/* ---- writing and editing */
+
+static void test_edit(void) {
+    unsigned char changed[BODY_SIZE];
+    casm_row row = record(3);
+    row.bytes[18] = 2;
+    memcpy(changed, body, BODY_SIZE);
+    casm_answer answer = casm_edit(changed, BODY_SIZE, 0, 4, record(4));
+    test("edit: no such channel", answer.number == CASM_NOT_THERE && answer.place == 0);
+    answer = casm_edit(changed, BODY_SIZE, 0, 3, record(4));
+    test("edit: another source channel", answer.number == CASM_BAD_NUMBER && answer.place == 0);
+    test("edit: refused, the body is as it was", memcmp(changed, body, BODY_SIZE) == 0);
+    answer = casm_edit(changed, BODY_SIZE, 0, 3, row);
+    test("edit: accepted", answer.number == CASM_ACCEPTED && answer.place == 0);
+    test("edit: the byte is there", changed[M_SIZE + 8 + 18] == 2);
+    changed[M_SIZE + 8 + 18] = 0;
+    test("edit: and no other changed", memcmp(changed, body, BODY_SIZE) == 0);
+}
+
+static void test_field(void) {
+    casm_row row = with_cntt(0, 0x81);
+    casm_edited edited = casm_field(row, 24, 100);
+    test("field: set", edited.number == CASM_ACCEPTED && edited.place == 0 && edited.held.bytes[24] == 100);
+    edited.held.bytes[24] = row.bytes[24];
+    test("field: all others kept", memcmp(&edited.held, &row, sizeof row) == 0);
+    edited = casm_field(row, 24, 200);
+    test("field: a value out of range", edited.number == CASM_OUT_OF_RANGE && edited.place == 24);
+    test("field: refused, the record as it was", memcmp(&edited.held, &row, sizeof row) == 0);
+    edited = casm_field(row, 26, 0);
+    test("field: no such byte", edited.number == CASM_BAD_NUMBER && edited.place == 0 && memcmp(&edited.held, &row, sizeof row) == 0);
+    row.has_cntt = 7;
+    test("field: has_cntt comes back as 1", casm_field(row, 24, 100).held.has_cntt == 1);
+}
+
+static void test_write(void) {
+    unsigned char out[CASM_MAX_GROUP_SIZE], before[CASM_MAX_GROUP_SIZE];
+    const unsigned char *flat = (const unsigned char *)three;
+    memset(out, 0xEE, sizeof out);
+    memcpy(before, out, sizeof out);
+    casm_length length = casm_write(bytes("Main A"), 6, flat, sizeof three - 1, 3, out, sizeof out);
+    test("write: a byte less than the count needs", length.number == CASM_BAD_NUMBER && length.place == 0 && length.length == 0);
+    length = casm_write(bytes("Main ,"), 6, 0, 0, 0, out, sizeof out);
+    test("write: an empty name", length.number == CASM_BAD_TEXT && length.place == 0 && length.length == 0);
+    length = casm_write(bytes("Main A"), 6, flat, sizeof three, 3, out, BODY_SIZE - 1);
+    test("write: a byte too little room", length.number == CASM_NO_ROOM && length.place == 0 && length.length == 0);
+    test("write: refused, the buffer is as it was", memcmp(out, before, sizeof out) == 0);
+}
+
+/* More rows than a group may have are no matter of the count: the 17th record of 16 channels is refused, however many follow. */
+static void test_write_33_rows(void) {
+    casm_row rows[33];
+    unsigned char out[2048];
+    for (unsigned char i = 0; i < 33; i++)
+        rows[i] = record((unsigned char)(i % 16));
+    casm_length length = casm_write(bytes("Main A"), 6, (const unsigned char *)rows, sizeof rows, 33, out, sizeof out);
+    test("write: 33 rows, a channel again", length.number == CASM_CHANNEL_AGAIN && length.place == 27 * 16 && length.length == 0);
+    length = casm_write(bytes("Main ,"), 6, (const unsigned char *)rows, sizeof rows, 33, out, sizeof out);
+    test("write: 33 rows, the text first", length.number == CASM_BAD_TEXT && length.place == 0);
+    rows[2].bytes[24] = 200;
+    length = casm_write(bytes("Main A"), 6, (const unsigned char *)rows, sizeof rows, 33, out, sizeof out);
+    test("write: 33 rows, a byte out of range", length.number == CASM_OUT_OF_RANGE && length.place == 27 * 2 + 24);
+    length = casm_write(bytes("Main A"), 6, (const unsigned char *)rows, sizeof rows, 34, out, sizeof out);
+    test("write: 34 of 33 rows", length.number == CASM_BAD_NUMBER && length.place == 0);
+    length = casm_write(bytes("Main A"), 6, (const unsigned char *)rows, sizeof rows, 2, out, sizeof out);
+    test("write: 2 of 33 rows", length.number == CASM_ACCEPTED && length.length == M_SIZE + 2 * 35);
+}
+
+static void test_records(void) {
+    casm_row rows[4];
+    memset(rows, 0xDD, sizeof rows);
+    casm_count count = casm_records(body, BODY_SIZE, 0, (unsigned char *)rows, sizeof three - 1);
+    test("records: a byte too little room", count.number == CASM_NO_ROOM && count.place == 0 && count.count == 0);
+    count = casm_records(body, BODY_SIZE, 1, (unsigned char *)rows, sizeof rows);
+    test("records: no such group", count.number == CASM_BAD_NUMBER && count.place == 0 && count.count == 0);
+    test("records: refused, the table is as it was", rows[0].bytes[0] == 0xDD && rows[2].cntt == 0xDD);
+    count = casm_records(body, BODY_SIZE, 0, (unsigned char *)rows, sizeof rows);
+    test("records: what was written", count.number == CASM_ACCEPTED && count.count == 3 && memcmp(rows, three, sizeof three) == 0);
+    test("records: later bytes are kept", rows[3].bytes[0] == 0xDD && rows[3].cntt == 0xDD);
+}
+
+/* ---- the wrappers, and the largest group that there is */
+
+static void test_rows(void) {
+    unsigned char out[CASM_MAX_GROUP_SIZE], text[CASM_MAX_TEXT + 1];
+    casm_row rows[CASM_MAX_RECORDS], back[CASM_MAX_RECORDS];
+    for (int i = 0; i < CASM_MAX_TEXT; i++)
+        text[i] = (unsigned char)(i % 16 == 15 ? ',' : i % 16 == 0 ? 'A' + i / 16 : '-');
+    text[CASM_MAX_TEXT - 1] = '-';
+    for (int i = 0; i < CASM_MAX_RECORDS; i++)
+        rows[i] = with_cntt((unsigned char)i, 0x8A);
+    casm_length length = casm_write_rows(text, CASM_MAX_TEXT, rows, CASM_MAX_RECORDS, out, sizeof out);
+    test("write_rows: the largest group", length.number == CASM_ACCEPTED && length.length == CASM_MAX_GROUP_SIZE);
+    casm_count count = casm_read_rows(out, sizeof out, 0, back, CASM_MAX_RECORDS);
+    test("read_rows: what was written", count.number == CASM_ACCEPTED && count.count == CASM_MAX_RECORDS && memcmp(back, rows, sizeof rows) == 0);
+    count = casm_read_rows(out, sizeof out, 0, back, CASM_MAX_RECORDS - 1);
+    test("read_rows: a row too little room", count.number == CASM_NO_ROOM && count.count == 0);
+    length = casm_write_rows(bytes("Main A"), 6, 0, 0, out, sizeof out);
+    test("write_rows: no rows", length.number == CASM_ACCEPTED && length.length == M_SIZE && memcmp(out, M, M_SIZE) == 0);
+    count = casm_read_rows(out, length.length, 0, 0, 0);
+    test("read_rows: none", count.number == CASM_ACCEPTED && count.count == 0);
+    length = casm_write_rows(text, CASM_MAX_TEXT + 1, 0, 0, out, sizeof out);
+    test("write_rows: a text over its limit", length.number == CASM_BAD_TEXT);
+    text[15] = '-';
+    length = casm_write_rows(text, CASM_MAX_NAME + 1, 0, 0, out, sizeof out);
+    test("write_rows: a name over its limit", length.number == CASM_BAD_TEXT);
+    text[0] = '-';
+    length = casm_write_rows(text, CASM_MAX_NAME, 0, 0, out, sizeof out);
+    test("write_rows: a name at its limit", length.number == CASM_ACCEPTED && length.length == 16 + CASM_MAX_NAME);
+}
+
+/* ---- the limits of a file, a body and a list */
+
+static void test_limits(void) {
+    static unsigned char long_file[CASM_MAX_FILE + 1], long_body[CASM_MAX_BODY + 1];
+    static unsigned long list[CASM_MAX_LIST];
+    test("limits: a file of the most bytes", casm_find(long_file, CASM_MAX_FILE).number == CASM_NOT_A_STYLE_FILE);
+    test("limits: a byte more", casm_find(long_file, CASM_MAX_FILE + 1).number == CASM_OVER_LIMIT);
+    for (int i = 0; i < CASM_MAX_BODY; i++)
+        long_body[i] = (unsigned char)"CSEG"[i % 4];
+    test("limits: a byte more than a body has", casm_body(long_body, CASM_MAX_BODY + 1).number == CASM_OVER_LIMIT);
+    casm_count entries = casm_salvage(long_body, CASM_MAX_BODY, list, CASM_MAX_LIST);
+    test("limits: the longest list", entries.number == CASM_ACCEPTED && 3 * entries.count == CASM_MAX_LIST);
+    test("limits: a number less", casm_salvage(long_body, CASM_MAX_BODY, list, CASM_MAX_LIST - 1).number == CASM_NO_ROOM);
+    for (int i = 0; i <= CASM_MAX_GROUPS; i++) {
+        memcpy(long_body + i * M_SIZE, M, M_SIZE);
+        long_body[i * M_SIZE + M_SIZE - 1] = (unsigned char)('A' + i);
+    }
+    casm_count groups = casm_body(long_body, CASM_MAX_GROUPS * M_SIZE);
+    test("limits: the most groups", groups.number == CASM_ACCEPTED && groups.count == CASM_MAX_GROUPS);
+    groups = casm_body(long_body, (CASM_MAX_GROUPS + 1) * M_SIZE);
+    test("limits: a group more", groups.number == CASM_TOO_MANY_GROUPS && groups.place == CASM_MAX_GROUPS * M_SIZE);
+}
+
+int main(void) {
+    prepare();
+    test_find();
+    test_body();
+    test_part();
+    test_group();
+    test_channel();
+    test_salvage();
+    test_plays();
+    test_voice();
+    test_place();
+    test_edit();
+    test_field();
+    test_write();
+    test_write_33_rows();
+    test_records();
+    test_rows();
+    test_limits();
+    printf("%d tests of the header, %d failed\n", tests, failed);
+    return failed != 0;
+}

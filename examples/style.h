@@ -1,0 +1,46 @@
+/* What the examples share: a style file read into memory, and a refusal told in words.
+ * The kit's clang comes without the headers of the C library, so what is used of it is declared here. */
+#ifndef STYLE_H
+#define STYLE_H
+#include "casm.h"
+
+int printf(const char *format, ...);
+unsigned long strlen(const char *text);
+int open(const char *name, int flags, ...);
+long read(int from, void *into, unsigned long count);
+
+/* A byte more than a style file may have, so that a longer one is refused as such and not cut. */
+static unsigned char file[CASM_MAX_FILE + 1];
+
+/* Reads a file up to that length; 0 where it cannot be read. */
+static inline int read_file(const char *name, unsigned long *length) {
+    int from = open(name, 0);
+    long got = from < 0 ? -1 : 1;
+    *length = 0;
+    while (got > 0 && *length < sizeof file) {
+        got = read(from, file + *length, sizeof file - *length);
+        if (got > 0)
+            *length += (unsigned long)got;
+    }
+    if (got < 0)
+        printf("cannot read %s\n", name);
+    return got >= 0;
+}
+
+/* A number of refusal in words. */
+static inline const char *in_words(unsigned char number) {
+    static const char *const words[] = {
+        "sound", "not a style file", "a chunk is cut off", "over its limit", "a section tag seen before", "no CASM section",
+        "a tag that may not stand there", "a Ctab not of 27 bytes or a Cntt not of 2", "a rule on the Sdec's text is broken",
+        "a byte out of its range", "a channel's second Ctab or Cntt", "a Cntt without its Ctab or out of order", "more than 32 groups",
+        "a part name seen in an earlier group", "too little room", "no such part or channel", "a number out of range",
+        "root fixed, and the table is not bypass"};
+    return number < sizeof words / sizeof *words ? words[number] : "unknown";
+}
+
+/* Says what was refused, and where; the status that a program ends with. */
+static inline int refused(const char *what, unsigned char number, unsigned long place) {
+    printf("%s: refused %d at %lu, %s\n", what, number, place, in_words(number));
+    return 1;
+}
+#endif
