@@ -4,3 +4,5 @@ pub mod Rounds
 pub mod Refusals
 pub mod LentMemory
 pub mod Calls
+pub mod ForC
+pub mod ByValue

@@ -28,13 +28,13 @@ module _ {A : Type 0} (a : Answer A) (number : ℕ) (e : number ≡ numberOf a) 
       go (granted x) f = absurd (z f)
 
 -- lent memory is as it was
-lent-kept : {A : Type 0} (a : Answer (List A)) (before : List A) (number : ℕ) → number ≡ numberOf a → (number ≡ 0 → ⊥) → lentAfter a before ≡ before
+pub lent-kept : {A : Type 0} (a : Answer (List A)) (before : List A) (number : ℕ) → number ≡ numberOf a → (number ≡ 0 → ⊥) → lentAfter a before ≡ before
 unfolding numberOf lentAfter
 lent-kept (refused k at) before number e z = refl
 lent-kept (granted xs) before number e z = absurd (z e)
 
 -- an answer told in another way has the same number
-retold-number : {A B : Type 0} (f : A → B) (a : Answer A) → numberOf (retold f a) ≡ numberOf a
+pub retold-number : {A B : Type 0} (f : A → B) (a : Answer A) → numberOf (retold f a) ≡ numberOf a
 unfolding numberOf retold
 retold-number f (refused k at) = refl
 retold-number f (granted x) = refl

@@ -1,0 +1,83 @@
+-- Demand 1 of the calls for C: each by the proof of its function, and by the laws of the call of the face beside it.
+use Rattle.export.proofs.reading.casm_find.Met as casm-find
+use Rattle.export.proofs.reading.casm_body.Met as casm-body
+use Rattle.export.proofs.reading.casm_part.Met as casm-part
+use Rattle.export.proofs.reading.casm_group.Met as casm-group
+use Rattle.export.proofs.reading.casm_channel.Met as casm-channel
+use Rattle.export.proofs.reading.casm_salvage.Met as casm-salvage
+use Rattle.export.proofs.asking.casm_plays.Met as casm-plays
+use Rattle.export.proofs.asking.casm_voice.Met as casm-voice
+use Rattle.export.proofs.asking.casm_place.Met as casm-place
+use Rattle.export.proofs.changing.casm_edit.Met as casm-edit
+use Rattle.export.proofs.changing.casm_field.Met as casm-field
+use Rattle.export.proofs.tables.casm_write.Met as casm-write
+use Rattle.export.proofs.tables.casm_records.Met as casm-records
+use Rattle.cross.specs.Rows.{recorded}
+use Rattle.flat.specs.Flat.{tableOf}
+use Rattle.export.specs.Crossing.{answered, counted, measured, located, named, grouped, channelled, spanned, played, placed}
+use Rattle.refusals.proofs.Calls.{casm-given, body-given, group-given, part-given, channel-given, voice-given, players-given, note-given}
+use Rattle.refusals.proofs.Changes.{write-given, edit-given, salvage-given}
+use Rattle.refusals.proofs.Kept.{buffer-kept, body-kept, list-kept}
+use Rattle.refusals.proofs.Nothing.{casm-nothing, body-nothing, group-nothing, part-nothing, channel-nothing, voice-nothing, note-nothing}
+use Rattle.law_crossing.proofs.Refused.{players-nobody, field-crossed-given, field-crossed-kept, rows-given, rows-kept}
+use Rattle.demands.specs.ForC.{EveryCCallEnds, FindRefuses, BodyRefuses, PartRefuses, GroupRefuses, ChannelRefuses, SalvageRefuses, PlaysRefuses, VoiceRefuses, PlaceRefuses, EditRefuses, FieldRefuses, WriteRefuses, RecordsRefuse}
+
+pub every-c-call-ends : {M : Type 1} → EveryCCallEnds M
+every-c-call-ends =
+    record {
+      casm-find-ends = casm-find.met;
+      casm-body-ends = casm-body.met;
+      casm-part-ends = casm-part.met;
+      casm-group-ends = casm-group.met;
+      casm-channel-ends = casm-channel.met;
+      casm-salvage-ends = casm-salvage.met;
+      casm-plays-ends = casm-plays.met;
+      casm-voice-ends = casm-voice.met;
+      casm-place-ends = casm-place.met;
+      casm-edit-ends = casm-edit.met;
+      casm-field-ends = casm-field.met;
+      casm-write-ends = casm-write.met;
+      casm-records-ends = casm-records.met;
+    }
+
+pub find-refuses : FindRefuses
+find-refuses file r p = record { given = casm-given file (located r) p; nothing = casm-nothing file (located r) p }
+
+pub body-refuses : BodyRefuses
+body-refuses body r p = record { given = body-given body (counted r) p; nothing = body-nothing body (counted r) p }
+
+pub part-refuses : PartRefuses
+part-refuses body part r p = record { given = part-given body part (named r) p; nothing = part-nothing body part (named r) p }
+
+pub group-refuses : GroupRefuses
+group-refuses body group r p = record { given = group-given body group (grouped r) p; nothing = group-nothing body group (grouped r) p }
+
+pub channel-refuses : ChannelRefuses
+channel-refuses body group source r p = record { given = channel-given body group source (channelled r) p; nothing = channel-nothing body group source (channelled r) p }
+
+pub salvage-refuses : SalvageRefuses
+salvage-refuses body before r after p = record { given = salvage-given body before (counted r) after p; nothing = list-kept body before (counted r) after p }
+
+pub plays-refuses : PlaysRefuses
+plays-refuses body part root type r p = record { given = players-given body part root type (played r) p; nothing = players-nobody body part root type r p }
+
+pub voice-refuses : VoiceRefuses
+voice-refuses body group source r p = record { given = voice-given body group source (spanned r) p; nothing = voice-nothing body group source (spanned r) p }
+
+pub place-refuses : PlaceRefuses
+place-refuses row root note r p = record { given = note-given (recorded row) root note (placed r) p; nothing = note-nothing (recorded row) root note (placed r) p }
+
+pub edit-refuses : EditRefuses
+edit-refuses before group source row r after p =
+    record { given = edit-given before group source (recorded row) (answered r) after p; nothing = body-kept before group source (recorded row) (answered r) after p }
+
+pub field-refuses : FieldRefuses
+field-refuses row index value r p = record { given = field-crossed-given row index value r p; nothing = field-crossed-kept row index value r p }
+
+pub write-refuses : WriteRefuses
+write-refuses text flat count before r after p =
+    record { given = write-given text (tableOf flat) count before (measured r) after p; nothing = buffer-kept text (tableOf flat) count before (measured r) after p }
+
+pub records-refuse : RecordsRefuse
+records-refuse body group before r after p =
+    record { given = rows-given body group before (counted r) after p; nothing = rows-kept body group before (counted r) after p }

@@ -1,0 +1,135 @@
+-- Demand 1 of the calls for C (include/casm.h), one by one. A C call promises what the call of the face beside it promises, of the answer that its struct stands for (`Crossing`); so its refusals are the same,
+-- and what a caller in C sees is said here of the struct's own fields.
+use Prim.Native.Nat.{ℕ}
+use mathlib.Core.Path.{_≡_}
+use mathlib.Core.Bool.{false}
+use mathlib.Core.List.{List}
+use lib.ListN.{length, replicate}
+use Rattle.layout.specs.Screen.{fieldSet, changed}
+use Rattle.layout.specs.Promises.{CasmFound, BodyRead, GroupFound, PartFound, ChannelFound, VoiceFound, PlaysTold, NotePlaced, GroupWritten, RecordEdited, Salvaged}
+use Rattle.cross.specs.declared.row.Row.{Row}
+use Rattle.cross.specs.Rows.{recorded, rowOf}
+use Rattle.flat.specs.Flat.{lentRows, tableOf, RowsRead}
+use Rattle.export.specs.declared.answer.Answer.{Answer}
+use Rattle.export.specs.declared.answer.Count.{Count}
+use Rattle.export.specs.declared.answer.Length.{Length}
+use Rattle.export.specs.declared.answer.Section.{Section}
+use Rattle.export.specs.declared.answer.Holder.{Holder}
+use Rattle.export.specs.declared.answer.Bounds.{Bounds}
+use Rattle.export.specs.declared.answer.Position.{Position}
+use Rattle.export.specs.declared.answer.Span.{Span}
+use Rattle.export.specs.declared.answer.Players.{Players}
+use Rattle.export.specs.declared.answer.Note.{Note}
+use Rattle.export.specs.declared.answer.Edited.{Edited}
+use Rattle.export.specs.Crossing.{answered, counted, measured, located, named, standing, grouped, channelled, spanned, played, placed, editOf}
+use Rattle.export.proofs.reading.casm_find.Statement as casm-find
+use Rattle.export.proofs.reading.casm_body.Statement as casm-body
+use Rattle.export.proofs.reading.casm_part.Statement as casm-part
+use Rattle.export.proofs.reading.casm_group.Statement as casm-group
+use Rattle.export.proofs.reading.casm_channel.Statement as casm-channel
+use Rattle.export.proofs.reading.casm_salvage.Statement as casm-salvage
+use Rattle.export.proofs.asking.casm_plays.Statement as casm-plays
+use Rattle.export.proofs.asking.casm_voice.Statement as casm-voice
+use Rattle.export.proofs.asking.casm_place.Statement as casm-place
+use Rattle.export.proofs.changing.casm_edit.Statement as casm-edit
+use Rattle.export.proofs.changing.casm_field.Statement as casm-field
+use Rattle.export.proofs.tables.casm_write.Statement as casm-write
+use Rattle.export.proofs.tables.casm_records.Statement as casm-records
+use Rattle.refusals.specs.Given.{GivenUnder}
+use Rattle.refusals.specs.File.{FileRefused}
+use Rattle.refusals.specs.Body.{BodyRefused}
+use Rattle.refusals.specs.After.{GroupAsked, RecordsAsked, PartAsked, PlayersAsked, ChannelAsked, EditAsked}
+use Rattle.refusals.specs.Records.{PlaceRefused, WriteRefused, FieldRefused, SalvageRefused}
+
+-- "every call takes every input and ends. Callers need check nothing first"
+pub record EveryCCallEnds (M : Type 1) : Type 2 where
+  pub casm-find-ends : casm-find.statement M
+  pub casm-body-ends : casm-body.statement M
+  pub casm-part-ends : casm-part.statement M
+  pub casm-group-ends : casm-group.statement M
+  pub casm-channel-ends : casm-channel.statement M
+  pub casm-salvage-ends : casm-salvage.statement M
+  pub casm-plays-ends : casm-plays.statement M
+  pub casm-voice-ends : casm-voice.statement M
+  pub casm-place-ends : casm-place.statement M
+  pub casm-edit-ends : casm-edit.statement M
+  pub casm-field-ends : casm-field.statement M
+  pub casm-write-ends : casm-write.statement M
+  pub casm-records-ends : casm-records.statement M
+
+-- "each refusal carries its number and its place .., is given only under the stated condition", and what the rest of the answer and lent memory then are
+pub record Refusing (Condition : ℕ → ℕ → Type 0) (number place : ℕ) (Nothing : Type 0) : Type 0 where
+  pub given : GivenUnder Condition number place
+  pub nothing : (number ≡ 0 → ⊥) → Nothing
+
+-- casm_find
+abbrev pub FindRefuses : Type 0
+FindRefuses = (file : List ℕ) (r : Section) → CasmFound file (located r) → Refusing (FileRefused file) (r .number) (r .place) ((r .tag ≡ 0) × (r .length ≡ 0))
+
+-- casm_body
+abbrev pub BodyRefuses : Type 0
+BodyRefuses = (body : List ℕ) (r : Count) → BodyRead body (counted r) → Refusing (BodyRefused body) (r .number) (r .place) (r .count ≡ 0)
+
+-- casm_part
+abbrev pub PartRefuses : Type 0
+PartRefuses = (body part : List ℕ) (r : Holder) → PartFound body part (named r) → Refusing (PartAsked body part) (r .number) (r .place) (r .group ≡ 0)
+
+-- casm_group
+abbrev pub GroupRefuses : Type 0
+GroupRefuses =
+    (body : List ℕ) (group : ℕ) (r : Bounds) → GroupFound body group (grouped r)
+    → Refusing (GroupAsked body group) (r .number) (r .place) (standing r ≡ record { at = 0; size = 0; text = 0; length = 0; ctabs = 0; records = 0; cntts = 0; seconds = 0 })
+
+-- casm_channel
+abbrev pub ChannelRefuses : Type 0
+ChannelRefuses =
+    (body : List ℕ) (group source : ℕ) (r : Position) → ChannelFound body group source (channelled r)
+    → Refusing (ChannelAsked body group source) (r .number) (r .place) ((r .«record» ≡ 0) × (r .at ≡ 0))
+
+-- casm_salvage
+abbrev pub SalvageRefuses : Type 0
+SalvageRefuses =
+    (body before : List ℕ) (r : Count) (after : List ℕ) → Salvaged body before (counted r) after
+    → Refusing (SalvageRefused body (length before)) (r .number) (r .place) ((after ≡ before) × (r .count ≡ 0))
+
+-- casm_plays
+abbrev pub PlaysRefuses : Type 0
+PlaysRefuses =
+    (body part : List ℕ) (root type : ℕ) (r : Players) → PlaysTold body part root type (played r)
+    → Refusing (PlayersAsked body part root type) (r .number) (r .place) ((r .count ≡ 0) × (r .channels ≡ replicate 16 0))
+
+-- casm_voice
+abbrev pub VoiceRefuses : Type 0
+VoiceRefuses =
+    (body : List ℕ) (group source : ℕ) (r : Span) → VoiceFound body group source (spanned r)
+    → Refusing (ChannelAsked body group source) (r .number) (r .place) ((r .start ≡ 0) × (r .length ≡ 0))
+
+-- casm_place
+abbrev pub PlaceRefuses : Type 0
+PlaceRefuses =
+    (row : Row) (root note : ℕ) (r : Note) → NotePlaced (recorded row) root note (placed r)
+    → Refusing (PlaceRefused (recorded row) root note) (r .number) (r .place) ((r .silent ≡ false) × (r .note ≡ 0))
+
+-- casm_edit
+abbrev pub EditRefuses : Type 0
+EditRefuses =
+    (before : List ℕ) (group source : ℕ) (row : Row) (r : Answer) (after : List ℕ) → RecordEdited before group source (recorded row) (answered r) after
+    → Refusing (EditAsked before group source (recorded row)) (r .number) (r .place) (after ≡ before)
+
+-- casm_field: the record as it was
+abbrev pub FieldRefuses : Type 0
+FieldRefuses =
+    (row : Row) (index value : ℕ) (r : Edited) → r ≡ editOf (changed (recorded row) (fieldSet (recorded row) index value))
+    → Refusing (FieldRefused index value) (r .number) (r .place) (r .held ≡ rowOf (recorded row))
+
+-- casm_write
+abbrev pub WriteRefuses : Type 0
+WriteRefuses =
+    (text flat : List ℕ) (count : ℕ) (before : List ℕ) (r : Length) (after : List ℕ) → GroupWritten text (tableOf flat) count before (measured r) after
+    → Refusing (WriteRefused text (tableOf flat) count (length before)) (r .number) (r .place) ((after ≡ before) × (r .length ≡ 0))
+
+-- casm_records
+abbrev pub RecordsRefuse : Type 0
+RecordsRefuse =
+    (body : List ℕ) (group : ℕ) (before : List ℕ) (r : Count) (after : List ℕ) → RowsRead body group before (counted r) after
+    → Refusing (RecordsAsked body group (lentRows (length before))) (r .number) (r .place) ((after ≡ before) × (r .count ≡ 0))

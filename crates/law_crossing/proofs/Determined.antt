@@ -1,0 +1,141 @@
+-- No two results satisfy one promise, of the calls for C and of the lent forms by value: a theorem for each, over the very words of its contract. With those of `laws` it is every call that a caller can reach.
+use Prim.Native.Nat.{ℕ}
+use mathlib.Core.Path.{_≡_, refl, sym, ap, _∙_}
+use mathlib.Core.List.{List}
+use lib.ListN.{take, drop}
+use Rattle.layout.specs.declared.record.Record.{Record}
+use Rattle.layout.specs.declared.answer.Answered.{Answered}
+use Rattle.layout.specs.declared.answer.Counted.{Counted}
+use Rattle.layout.specs.declared.answer.Measured.{Measured}
+use Rattle.layout.specs.declared.answer.Located.{Located}
+use Rattle.layout.specs.declared.answer.Named.{Named}
+use Rattle.layout.specs.declared.answer.Grouped.{Grouped}
+use Rattle.layout.specs.declared.answer.Channelled.{Channelled}
+use Rattle.layout.specs.declared.answer.Spanned.{Spanned}
+use Rattle.layout.specs.declared.answer.Placed.{Placed}
+use Rattle.layout.specs.Screen.{fieldSet, changed}
+use Rattle.layout.specs.Promises.{CasmFound, BodyRead, GroupFound, PartFound, ChannelFound, VoiceFound, PlaysTold, NotePlaced, RecordsRead, GroupWritten, RecordEdited, FieldSet, Salvaged}
+use Rattle.cross.specs.declared.row.Row.{Row}
+use Rattle.cross.specs.Rows.{recorded}
+use Rattle.flat.specs.Flat.{tableOf, RowsRead}
+use Rattle.export.specs.declared.answer.Answer.{Answer}
+use Rattle.export.specs.declared.answer.Count.{Count}
+use Rattle.export.specs.declared.answer.Length.{Length}
+use Rattle.export.specs.declared.answer.Section.{Section}
+use Rattle.export.specs.declared.answer.Holder.{Holder}
+use Rattle.export.specs.declared.answer.Bounds.{Bounds}
+use Rattle.export.specs.declared.answer.Position.{Position}
+use Rattle.export.specs.declared.answer.Span.{Span}
+use Rattle.export.specs.declared.answer.Players.{Players}
+use Rattle.export.specs.declared.answer.Note.{Note}
+use Rattle.export.specs.declared.answer.Edited.{Edited}
+use Rattle.export.specs.Crossing.{answered, counted, measured, located, named, grouped, channelled, spanned, played, placed, editOf}
+use Rattle.bridge.specs.declared.Filled.{Filled}
+use Rattle.laws.specs.Determined.{Determines, DeterminesBoth}
+use Rattle.laws.proofs.Determined as face
+use Rattle.law_crossing.proofs.Crossed.{crossing-determines, crossing-determines-both, players, players-back, by-parts}
+
+-- ---- what crosses, by the answer that it stands for
+
+abbrev answer : Answered → Answer
+answer a = record { number = a .number; place = a .place }
+
+abbrev count : Counted → Count
+count a = record { number = a .number; place = a .place; count = a .count }
+
+abbrev size : Measured → Length
+size a = record { number = a .number; place = a .place; length = a .length }
+
+abbrev section : Located → Section
+section a = record { number = a .number; place = a .place; tag = a .tag; length = a .length }
+
+abbrev holder : Named → Holder
+holder a = record { number = a .number; place = a .place; group = a .group }
+
+abbrev bounds : Grouped → Bounds
+bounds a =
+    let g = a .group in
+    record {
+      number = a .number;
+      place = a .place;
+      at = g .at;
+      size = g .size;
+      «text_at» = g .text;
+      «text_length» = g .length;
+      «records_at» = g .ctabs;
+      records = g .records;
+      «cntts_at» = g .cntts;
+      cntts = g .seconds;
+    }
+
+abbrev position : Channelled → Position
+position a = record { number = a .number; place = a .place; «record» = a .row; at = a .at }
+
+abbrev span : Spanned → Span
+span a = record { number = a .number; place = a .place; start = a .start; length = a .length }
+
+abbrev note : Placed → Note
+note a = record { number = a .number; place = a .place; silent = a .silent; note = a .note }
+
+-- ---- the calls for C: what is returned alone
+
+pub casm-find : (file : List ℕ) → Determines (λ (r : Section). CasmFound file (located r))
+casm-find file = crossing-determines located section (λ x. refl) (CasmFound file) (face.casm-found file)
+
+pub casm-body : (body : List ℕ) → Determines (λ (r : Count). BodyRead body (counted r))
+casm-body body = crossing-determines counted count (λ x. refl) (BodyRead body) (face.body-read body)
+
+pub casm-part : (body part : List ℕ) → Determines (λ (r : Holder). PartFound body part (named r))
+casm-part body part = crossing-determines named holder (λ x. refl) (PartFound body part) (face.part-found body part)
+
+pub casm-group : (body : List ℕ) (group : ℕ) → Determines (λ (r : Bounds). GroupFound body group (grouped r))
+casm-group body group = crossing-determines grouped bounds (λ x. refl) (GroupFound body group) (face.group-found body group)
+
+pub casm-channel : (body : List ℕ) (group source : ℕ) → Determines (λ (r : Position). ChannelFound body group source (channelled r))
+casm-channel body group source = crossing-determines channelled position (λ x. refl) (ChannelFound body group source) (face.channel-found body group source)
+
+pub casm-voice : (body : List ℕ) (group source : ℕ) → Determines (λ (r : Span). VoiceFound body group source (spanned r))
+casm-voice body group source = crossing-determines spanned span (λ x. refl) (VoiceFound body group source) (face.voice-found body group source)
+
+pub casm-plays : (body part : List ℕ) (root type : ℕ) → Determines (λ (r : Players). PlaysTold body part root type (played r))
+casm-plays body part root type = crossing-determines played players players-back (PlaysTold body part root type) (face.plays-told body part root type)
+
+pub casm-place : (row : Row) (root n : ℕ) → Determines (λ (r : Note). NotePlaced (recorded row) root n (placed r))
+casm-place row root n = crossing-determines placed note (λ x. refl) (NotePlaced (recorded row) root n) (face.note-placed (recorded row) root n)
+
+pub casm-field : (row : Row) (index value : ℕ) → Determines (λ (r : Edited). r ≡ editOf (changed (recorded row) (fieldSet (recorded row) index value)))
+casm-field row index value x y p q = p ∙ sym q
+
+-- ---- .. and with lent memory at exit
+
+pub casm-salvage : (body before : List ℕ) → DeterminesBoth (λ (r : Count) (after : List ℕ). Salvaged body before (counted r) after)
+casm-salvage body before = crossing-determines-both counted count (λ x. refl) (Salvaged body before) (face.salvaged body before)
+
+pub casm-edit : (before : List ℕ) (group source : ℕ) (row : Row) → DeterminesBoth (λ (r : Answer) (after : List ℕ). RecordEdited before group source (recorded row) (answered r) after)
+casm-edit before group source row =
+    crossing-determines-both answered answer (λ x. refl) (RecordEdited before group source (recorded row)) (face.record-edited before group source (recorded row))
+
+pub casm-write : (text flat : List ℕ) (n : ℕ) (before : List ℕ) → DeterminesBoth (λ (r : Length) (after : List ℕ). GroupWritten text (tableOf flat) n before (measured r) after)
+casm-write text flat n before =
+    crossing-determines-both measured size (λ x. refl) (GroupWritten text (tableOf flat) n before) (face.group-written text (tableOf flat) n before)
+
+rows-read : (body : List ℕ) (group : ℕ) (before : List ℕ) → DeterminesBoth (RowsRead body group before)
+rows-read body group before x y u v p q = (p .answer ∙ sym (q .answer), p .table ∙ sym (q .table))
+
+pub casm-records : (body : List ℕ) (group : ℕ) (before : List ℕ) → DeterminesBoth (λ (r : Count) (after : List ℕ). RowsRead body group before (counted r) after)
+casm-records body group before = crossing-determines-both counted count (λ x. refl) (RowsRead body group before) (rows-read body group before)
+
+-- ---- the lent forms by value (`set_with` promises `FieldSet`, as `set_field` does)
+
+pub read-with-room : (body : List ℕ) (group : ℕ) (start : List Record) (room : ℕ)
+    → Determines (λ (b : Filled). RecordsRead body group (take room start) (b .answer) (take room (b .table)) × (drop room (b .table) ≡ drop room start))
+read-with-room body group start room x y p q =
+    let lent = face.records-read body group (take room start) (x .answer) (y .answer) (take room (x .table)) (take room (y .table)) (p .0) (q .0) in
+    let table = by-parts room (x .table) (y .table) (lent .1) (p .1 ∙ sym (q .1)) in
+    ap {B = Filled} (λ (a : Counted). record { table = x .table; answer = a }) (lent .0) ∙ ap {B = Filled} (λ (t : List Record). record { table = t; answer = y .answer }) table
+
+pub write-with : (text : List ℕ) (records : List Record) (lent n : ℕ) (before : List ℕ) → DeterminesBoth (GroupWritten text (take lent records) n before)
+write-with text records lent n before = face.group-written text (take lent records) n before
+
+pub set-with : (r : Record) (index value : ℕ) → Determines (FieldSet r index value)
+set-with r index value = face.field-set r index value
