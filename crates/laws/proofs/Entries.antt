@@ -12,7 +12,8 @@ use Rattle.layout.specs.declared.turn.Judged.the-variants.{Unsound, Sound}
 use Rattle.layout.specs.Group.{groupSize, groupAt}
 use Rattle.layout.specs.Salvage.{front, pieces, Part, rest, listed, judged, parts, Entry, entriesFrom, salvage}
 use Rattle.layout.specs.Lists.{All}
-use Rattle.salvage.proofs.Cseg.{Free, Piece, no-true, no-cseg}
+use Rattle.salvage.specs.Cut.{Free, Piece}
+use Rattle.salvage.proofs.Cseg.{no-true, no-cseg}
 use Rattle.salvage.proofs.Cut.{front-is-free, pieces-are}
 use Rattle.salvage.proofs.Verdicts.{size-some, size-within, sound-cseg, size-own, sound-own}
 use Rattle.salvage.proofs.Numbered.{refusal-some}

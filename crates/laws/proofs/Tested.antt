@@ -7,7 +7,8 @@ use mathlib.Core.List.{List, [], _∷_, _++_}
 use lib.Seq.{drop-nil}
 use borrow.Author.Tests.{not-true}
 use Rattle.layout.specs.Salvage.{cseg}
-use Rattle.salvage.proofs.Cseg.{Apart, Free, not-so, no-cseg}
+use Rattle.salvage.specs.Cut.{Free}
+use Rattle.salvage.proofs.Cseg.{Apart, not-so, no-cseg}
 use Rattle.laws.specs.Salvage.{NoneCompleted}
 use Rattle.laws.proofs.Starts.{apart-none}
 

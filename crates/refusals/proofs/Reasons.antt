@@ -9,7 +9,7 @@ use Rattle.layout.specs.declared.turn.Judged.{Judged}
 use Rattle.layout.specs.declared.turn.Judged.the-variants.{Unsound, Sound}
 use Rattle.layout.specs.Group.{groupSize, groupAt}
 use Rattle.layout.specs.Salvage.{front, pieces, Part, rest, listed, judged, parts, Entry, salvage}
-use Rattle.salvage.proofs.Cseg.{Free, Piece}
+use Rattle.salvage.specs.Cut.{Free, Piece}
 use Rattle.salvage.proofs.Cut.{front-is-free, pieces-are}
 use Rattle.salvage.proofs.Verdicts.{size-some}
 use Rattle.laws.specs.Salvage.{bytesOf}

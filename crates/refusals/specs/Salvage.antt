@@ -2,7 +2,7 @@
 use Prim.Native.Nat.{ℕ}
 use mathlib.Core.List.{List}
 use Rattle.layout.specs.Refusals.{badTag}
-use Rattle.salvage.proofs.Cseg.{Free, Piece}
+use Rattle.salvage.specs.Cut.{Free, Piece}
 use Rattle.refusals.specs.Body.{GroupRefused}
 
 -- the kind of an entry with these bytes, where they are no group
