@@ -2,6 +2,7 @@ pub mod Marked
 pub mod Salvage
 pub mod Rounds
 pub mod Refusals
+pub mod Sound
 pub mod LentMemory
 pub mod Calls
 pub mod ForC

@@ -3,6 +3,7 @@ pub mod Examples
 pub mod Salvage
 pub mod Rounds
 pub mod Refusals
+pub mod Sound
 pub mod LentMemory
 pub mod ForC
 pub mod ByValue

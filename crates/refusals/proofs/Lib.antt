@@ -26,4 +26,5 @@ pub mod Changes
 pub mod Kept
 pub mod Nothing
 pub mod Parts
+pub mod Sound
 pub mod Reasons
