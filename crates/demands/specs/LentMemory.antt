@@ -16,8 +16,6 @@ use Rattle.layout.specs.declared.answer.Channelled.{Channelled}
 use Rattle.layout.specs.declared.answer.Played.{Played}
 use Rattle.layout.specs.declared.answer.Placed.{Placed}
 use Rattle.layout.specs.declared.answer.Changed.{Changed}
-use Rattle.layout.specs.Answers.{nowhere}
-use Rattle.layout.specs.Plays.{noChannel}
 use Rattle.layout.specs.Promises.{CasmFound, BodyRead, GroupFound, PartFound, ChannelFound, TextShown, RecordsRead, VoiceShown, VoiceFound, PlaysTold, NotePlaced, GroupWritten, RecordEdited, FieldSet, FieldSetInPlace, Salvaged}
 
 -- ---- lent memory
@@ -63,7 +61,9 @@ NoCountTold = (body : List ℕ) (r : Counted) → BodyRead body r → (r .number
 
 -- find_group, every field of whose group is then 0
 abbrev pub NoGroupTold : Type 0
-NoGroupTold = (body : List ℕ) (group : ℕ) (r : Grouped) → GroupFound body group r → (r .number ≡ 0 → ⊥) → r .group ≡ nowhere
+NoGroupTold =
+    (body : List ℕ) (group : ℕ) (r : Grouped) → GroupFound body group r → (r .number ≡ 0 → ⊥)
+    → r .group ≡ record { at = 0; size = 0; text = 0; length = 0; ctabs = 0; records = 0; cntts = 0; seconds = 0 }
 
 -- find_part
 abbrev pub NoPartTold : Type 0
@@ -77,10 +77,11 @@ NoChannelTold = (body : List ℕ) (group channel : ℕ) (r : Channelled) → Cha
 abbrev pub NoVoiceTold : Type 0
 NoVoiceTold = (body : List ℕ) (group channel : ℕ) (r : Spanned) → VoiceFound body group channel r → (r .number ≡ 0 → ⊥) → (r .start ≡ 0) × (r .length ≡ 0)
 
--- who_plays
+-- who_plays, each of whose sixteen places is then 0
 abbrev pub NobodyTold : Type 0
 NobodyTold =
-    (body name : List ℕ) (root type : ℕ) (r : Played) → PlaysTold body name root type r → (r .number ≡ 0 → ⊥) → (r .count ≡ 0) × (r .channels ≡ replicate 16 noChannel)
+    (body name : List ℕ) (root type : ℕ) (r : Played) → PlaysTold body name root type r → (r .number ≡ 0 → ⊥)
+    → (r .count ≡ 0) × (r .channels ≡ replicate 16 (record { 0 = 0 }))
 
 -- place_note
 abbrev pub NoNoteTold : Type 0
