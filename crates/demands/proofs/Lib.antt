@@ -4,6 +4,7 @@ pub mod Rounds
 pub mod Refusals
 pub mod Sound
 pub mod LentMemory
+pub mod Chords
 pub mod Calls
 pub mod ForC
 pub mod ByValue

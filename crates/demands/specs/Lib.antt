@@ -7,3 +7,4 @@ pub mod Sound
 pub mod LentMemory
 pub mod ForC
 pub mod ByValue
+pub mod Chords

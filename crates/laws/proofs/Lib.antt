@@ -9,3 +9,4 @@ pub mod Calls
 pub mod Tested
 pub mod Reading
 pub mod Determined
+pub mod Bits
