@@ -5,18 +5,25 @@ function shown(key) { sub(/^layout\./, "", key); return key }
 function path_of(key, part) { split(key, part, "."); return "crates/" part[1] "/specs/" part[2] ".antt" }
 function linked(key) { return "[`" shown(key) "`](../" path_of(key) ")" }
 function add(list, item) { return list == "" ? item : list "\n" item }
+function commas(list, item) { return list == "" ? item : list ", " item }
+
+# A line of a declaration behind those before it.
+function joined(text, line) {
+    text = text (text == "" ? "" : " ") line
+    gsub(/\( /, "(", text); gsub(/,? \)/, ")", text)
+    return text
+}
 
 # The names of a `use` line, as this file knows them.
-function import(line, crate, rest, mod, names, n, i) {
+function import(line, crate, rest, names, n, i) {
     if (line !~ /Rattle·.*specs\.[A-Za-z]+\.\{/) return
     sub(/^.*Rattle·/, "", line)
     match(line, /^[a-z_]+/); crate = substr(line, 1, RLENGTH)
     rest = line; sub(/\.\{.*/, "", rest); sub(/^.*specs\./, "", rest)
     if (rest ~ /\./) return
-    mod = rest
     sub(/^.*\{/, "", line); sub(/\}.*/, "", line)
     n = split(line, names, /, */)
-    for (i = 1; i <= n; i++) known[FILENAME, names[i]] = crate "." mod "." names[i]
+    for (i = 1; i <= n; i++) known[FILENAME, names[i]] = crate "." rest "." names[i]
 }
 
 # The keys that a text uses; field projections, as ` .records`, are no names.
@@ -31,9 +38,7 @@ function uses_of(text, file, word, n, i, list, key, met) {
     return list
 }
 
-function close_def() {
-    if (def != "") { body[def] = text; def = "" }
-}
+function close_def() { if (def != "") { body[def] = text; def = "" } }
 
 FNR == 1 {
     close_def(); fn = ""; comment = ""; section = ""; title = ""; in_title = 1
@@ -41,7 +46,7 @@ FNR == 1 {
     kind = FILENAME ~ /\.antt$/ ? "specs" : FILENAME ~ /\.rt$/ ? "src" : FILENAME ~ /\.edit$/ ? "edit" : FILENAME ~ /\.h$/ ? "header" : "list"
     crate = part[2]
     base = part[4]; sub(/\.[a-z]+$/, "", base)
-    if (kind == "edit") { edit = crate "/" base; edits[++edit_count] = edit }
+    if (kind == "edit") edit = crate "/" base
     if (kind == "specs" && base != "Lib") { module_key = crate "." base; if (crate == "layout" || crate == "demands") modules[++module_count] = module_key }
 }
 
@@ -52,7 +57,8 @@ kind == "list" && /^[a-z_:]+: / {
     refusals[name] = substr($0, length(name) + 3)
     if (name ~ /::/) face[++face_count] = name
 }
-kind == "header" && /^casm_[a-z]+ casm_[a-z]+\(/ { name = $2; sub(/\(.*/, "", name); c_calls[++c_count] = name }
+kind == "header" && /^casm_[a-z]+ casm_[a-z]+\(/ { name = $2; sub(/\(.*/, "", name); c_calls[++c_count] = name; declared[name] = ""; in_sig = 1 }
+kind == "header" && in_sig { line = $0; sub(/^ +/, "", line); declared[name] = joined(declared[name], line); if (/;$/) in_sig = 0 }
 
 # ---- edits
 
@@ -102,7 +108,7 @@ kind == "src" && /^(pub |pub\(crate\) )?(extern "C" )?fn / {
     about[fn] = comment; comment = ""; signature[fn] = ""; in_sig = 1
 }
 kind == "src" && fn != "" && in_sig && /^(    (requires|ensures) |\{)/ { in_sig = 0 }
-kind == "src" && fn != "" && in_sig { line = $0; sub(/^ +/, "", line); sub(/ *\{$/, "", line); signature[fn] = signature[fn] (signature[fn] == "" ? "" : " ") line }
+kind == "src" && fn != "" && in_sig { line = $0; sub(/^ +/, "", line); sub(/ *\{$/, "", line); signature[fn] = joined(signature[fn], line) }
 kind == "src" && fn != "" && /^    (requires|ensures) / {
     line = $0; sub(/^[^⌜]*⌜ */, "", line); sub(/ *⌝.*$/, "", line)
     contract[fn] = contract[fn] " " line
@@ -116,7 +122,7 @@ kind == "src" && /^\}/ { fn = "" }
 # ---- what rests on what
 
 # Marks all that a key uses, by way of every definition.
-function reach(key, mark, list, n, i, item) {
+function reach(key, mark, n, i, item) {
     if ((mark SUBSEP key) in reached) return
     reached[mark, key] = 1
     n = split(uses[key], item, "\n")
@@ -134,13 +140,15 @@ function speaks(key, f, n, i, item) {
 
 # ---- printing
 
+function complain(text) { print "pages: " text > "/dev/stderr"; bad = 1 }
+function call_link(name, slug) { slug = name; gsub(/[^a-z0-9_-]/, "", slug); return "[`" name "`](#" slug ")" }
+
+# The edits that guard a name, a line each.
 function wrong(name, indent, n, i, item, e) {
     told[name] = 1
     n = split(guards[name], item, "\n")
-    for (i = 1; i <= n; i++) { e = item[i]; split(e, part, "/"); printf "%s- [`%s`](../crates/%s/must-fail/%s.edit): %s\n", indent, e, part[1], part[2], why[e] >> page }
-    return n
+    for (i = 1; i <= n; i++) { split(item[i], e, "/"); printf "%s- [`%s`](../crates/%s/must-fail/%s.edit): %s\n", indent, item[i], e[1], e[2], why[item[i]] >> page }
 }
-function call_link(name, slug) { slug = name; gsub(/[^a-z0-9_-]/, "", slug); return "[`" name "`](#" slug ")" }
 
 # A statement of demands: a name in capitals that is a proposition, and the examples.
 function is_statement(d, name) {
@@ -151,26 +159,129 @@ function is_statement(d, name) {
 
 # The statements that speak of a key, by way of the words of the crates of laws.
 function stated(key, i, list, n) {
-    for (i = 1; i <= def_count; i++) if (is_statement(order[i]) && (order[i] SUBSEP key) in spoken) { n++; list = list (list == "" ? "" : ", ") linked(order[i]) }
-    if (n > 8) return n " statements"
+    for (i = 1; i <= def_count; i++) if (is_statement(order[i]) && (order[i] SUBSEP key) in spoken) { n++; list = commas(list, linked(order[i])) }
+    return n > 8 ? n " statements" : list
+}
+
+# The statements whose comments name a call.
+function naming(name, i, list) {
+    sub(/^.*::/, "", name)
+    for (i = 1; i <= def_count; i++) if (is_statement(order[i]) && (" " said[order[i]] " ") ~ ("[^a-z_]" name "[^a-z_]")) list = commas(list, linked(order[i]))
     return list
 }
 
-function one_call(name, f, n, i, item, list, key) {
-    printf "\n### %s\n\n%s\n\n    %s\n\n", name, about[f], signature[f] >> page
+# One call, whose contract is that of function f.
+function one_call(name, f, n, i, item, list) {
+    list = (name in declared) ? declared[name] : signature[f]
+    printf "\n### %s\n\n%s\n\n    %s\n\n", name, about[f], list >> page
     n = split(promise[f], item, "\n")
     for (i = 1; i <= n; i++) printf "- promises `%s`\n", item[i] >> page
     n = split(uses_of(contract[f], source[f]), item, "\n")
-    for (i = 1; i <= n; i++) if (item[i] ~ /^layout\.Promises\./ || item[i] ~ /^[a-z]+\.[A-Za-z]+\.[A-Z]/) {
+    for (i = 1; i <= n; i++) if (item[i] ~ /\.[A-Z][A-Za-z]*$/) {
         printf "- %s: %s\n", linked(item[i]), said[item[i]] >> page
-        list = stated(item[i])
-        if (list != "" && name ~ /::/) printf "- stated of it: %s\n", list >> page
+        list = crate_of[f] == "export" ? "" : stated(item[i])
+        if (list != "") printf "- stated of it: %s\n", list >> page
     }
+    list = crate_of[f] == "export" || crate_of[f] == "bridge" ? naming(name) : ""
+    if (list != "") printf "- stated of it by name: %s\n", list >> page
     if (name in refusals && refusals[name] !~ /^as /) printf "- refusals in order: %s\n", refusals[name] >> page
     else if (name in refusals) printf "- answers as %s\n", call_link(substr(refusals[name], 4)) >> page
     else if (f in made) printf "- answers as %s, which it calls: its refusals and its wrong programs count here too\n", call_link(made[f]) >> page
-    else { printf "pages: no refusals of %s in .ci/refusals, and no call of the face in it\n", name > "/dev/stderr"; bad = 1 }
+    else complain("no refusals of " name " in .ci/refusals, and no call of the face in it")
     if (guards[name] != "") { printf "- wrong programs that are refused:\n" >> page; wrong(name, "  ") }
+}
+
+# The public functions of a crate that no list has.
+function unlisted(crate, where, i) {
+    for (i = 1; i <= fn_count; i++) if (public[functions[i]] && crate_of[functions[i]] == crate && !(functions[i] in listed)) complain("not in " where ": " functions[i])
+}
+
+function promises_page(i, f) {
+    printf "\n## The calls of the face\n" >> page
+    for (i = 1; i <= face_count; i++) {
+        f = (face[i] in passed) ? passed[face[i]] : face[i]
+        if (!(f in signature)) { complain(".ci/refusals has " face[i] ", and the face does not"); continue }
+        listed[f] = 1
+        one_call(face[i], f)
+    }
+    unlisted("casm", ".ci/refusals")
+    printf "\n## By value, for programs\n" >> page
+    for (i = 1; i <= fn_count; i++) if (public[functions[i]] && crate_of[functions[i]] == "bridge") one_call(functions[i], functions[i])
+    printf "\n## The calls for C\n" >> page
+    for (i = 1; i <= c_count; i++) {
+        f = c_calls[i]
+        if (!(f in signature)) { complain("include/casm.h has " f ", and crates/export does not"); continue }
+        listed[f] = 1
+        one_call(f, f)
+    }
+    unlisted("export", "include/casm.h")
+}
+
+# A comment quotes a document where it has a phrase in quotes, and not only a tag.
+function quotes(text) { return text ~ /"[^" ]+ [^"]*"|`[^`]+ [^`]+ [^`]+`/ }
+
+# A definition that quotes a sentence, and what rests on it.
+function definition(d, i, k, list) {
+    printf "- %s: %s\n", linked(d), said[d] >> page
+    for (i = 1; i <= promise_count; i++) if ((promised[i] SUBSEP d) in reached && promised[i] != d) { k++; list = commas(list, "`" substr(promised[i], length("layout.Promises.") + 1) "`") }
+    if (k > 0) printf "  - promises that rest on it: %s\n", (k > 6 ? k " of " promise_count : list) >> page
+    list = ""; k = 0
+    for (i = 1; i <= fn_count; i++) if ((functions[i] SUBSEP d) in spoken) { k++; list = commas(list, "`" functions[i] "`") }
+    if (k > 0) printf "  - functions whose contracts speak of it: %s\n", (k > 12 ? k : list) >> page
+    list = stated(d)
+    if (list != "") printf "  - stated of it: %s\n", list >> page
+    if (guards[shown(d)] != "") { printf "  - wrong programs that are refused:\n" >> page; wrong(shown(d), "    ") }
+    else without = commas(without, "`" shown(d) "`")
+}
+
+# The definitions of the layout in reading order; a module that the order does not name comes last.
+function definitions(n, i, m, item, placed, sequence, count, headed) {
+    printf "\n## The definitions\n" >> page
+    n = split("Bytes Style Body Sdec Group Ranges Records Asked Voice Plays Place Write Edit Screen Salvage Answers Refusals", item, " ")
+    for (i = 1; i <= n; i++) { sequence[++count] = "layout." item[i]; placed["layout." item[i]] = 1 }
+    for (i = 1; i <= module_count; i++) if (modules[i] ~ /^layout\./ && !(modules[i] in placed)) sequence[++count] = modules[i]
+    for (m = 1; m <= count; m++) {
+        headed = 0
+        for (i = 1; i <= def_count; i++) {
+            if (index(order[i], sequence[m] ".") != 1 || !quotes(said[order[i]])) continue
+            if (!headed) { printf "\n### %s\n\n%s\n\n", shown(sequence[m]), title_of[sequence[m]] >> page; headed = 1 }
+            quoted++
+            definition(order[i])
+        }
+    }
+}
+
+function statements(m, i) {
+    printf "\n## The statements\n" >> page
+    for (m = 1; m <= module_count; m++) {
+        if (modules[m] !~ /^demands\./) continue
+        printf "\n### %s\n\n%s\n\n", modules[m], title_of[modules[m]] >> page
+        for (i = 1; i <= def_count; i++) {
+            if (index(order[i], modules[m] ".") != 1 || !is_statement(order[i])) continue
+            printf "- %s: %s\n", linked(order[i]), said[order[i]] >> page
+            if (guards[order[i]] != "") { printf "  - wrong statements that are refused:\n" >> page; wrong(order[i], "    ") }
+        }
+    }
+}
+
+# The definition that a name in `of: ` stands for: by its whole key, in the layout, or in the first crate that has it.
+function key_of(name, i, key) {
+    for (i = 1; i <= def_count; i++) {
+        if (order[i] == name || order[i] == "layout." name) return order[i]
+        if (key == "" && substr(order[i], length(order[i]) - length(name)) == "." name) key = order[i]
+    }
+    return key
+}
+
+function other_names(g, name) {
+    printf "\n## Other names that edits guard\n\nDefinitions that quote no sentence, words of other crates, and functions below the face.\n\n" >> page
+    for (g = 1; g <= guard_count; g++) {
+        name = guarded[g]
+        if (name in told) continue
+        if (key_of(name) != "") printf "- %s: %s\n", linked(key_of(name)), said[key_of(name)] >> page
+        else printf "- `%s`: %s\n", name, about[name] >> page
+        wrong(name, "  ")
+    }
 }
 
 END {
@@ -178,83 +289,17 @@ END {
     for (i = 1; i <= def_count; i++) uses[order[i]] = uses_of(body[order[i]], file_of[order[i]])
     for (i = 1; i <= def_count; i++) if (order[i] ~ /^layout\.Promises\./) { promised[++promise_count] = order[i]; reach(order[i], order[i]) }
     for (i = 1; i <= fn_count; i++) {
-        f = functions[i]
-        n = split(uses_of(contract[f], source[f]), item, "\n")
-        for (j = 1; j <= n; j++) start[j] = item[j]
-        for (j = 1; j <= n; j++) speaks(start[j], f)
+        n = split(uses_of(contract[functions[i]], source[functions[i]]), item, "\n")
+        for (j = 1; j <= n; j++) speaks(item[j], functions[i])
     }
     for (i = 1; i <= def_count; i++) if (is_statement(order[i])) speaks(order[i], order[i])
 
     page = promises
-    printf "\n## The calls of the face\n" >> page
-    for (i = 1; i <= face_count; i++) {
-        f = face[i] in passed ? passed[face[i]] : face[i]
-        if (!(f in signature)) { printf "pages: .ci/refusals has %s, and the face does not\n", face[i] > "/dev/stderr"; bad = 1; continue }
-        listed[f] = 1
-        one_call(face[i], f)
-    }
-    for (i = 1; i <= fn_count; i++) if (public[functions[i]] && crate_of[functions[i]] == "casm" && !(functions[i] in listed)) { printf "pages: not in .ci/refusals: %s\n", functions[i] > "/dev/stderr"; bad = 1 }
-    printf "\n## By value, for programs\n" >> page
-    for (i = 1; i <= fn_count; i++) if (public[functions[i]] && crate_of[functions[i]] == "bridge") one_call(functions[i], functions[i])
-    printf "\n## The calls for C\n" >> page
-    for (i = 1; i <= c_count; i++) {
-        if (!(c_calls[i] in signature)) { printf "pages: include/casm.h has %s, and crates/export does not\n", c_calls[i] > "/dev/stderr"; bad = 1; continue }
-        listed[c_calls[i]] = 1
-        one_call(c_calls[i], c_calls[i])
-    }
-    for (i = 1; i <= fn_count; i++) if (public[functions[i]] && crate_of[functions[i]] == "export" && !(functions[i] in listed)) { printf "pages: not in include/casm.h: %s\n", functions[i] > "/dev/stderr"; bad = 1 }
-
+    promises_page()
     page = sentences
-    first = "Bytes Style Body Sdec Group Ranges Records Asked Voice Plays Place Write Edit Screen Salvage Answers Refusals"
-    n = split(first, item, " ")
-    for (i = 1; i <= n; i++) { sequence[++count] = "layout." item[i]; placed["layout." item[i]] = 1 }
-    for (i = 1; i <= module_count; i++) if (modules[i] ~ /^layout\./ && !(modules[i] in placed)) sequence[++count] = modules[i]
-    printf "\n## The definitions\n" >> page
-    for (m = 1; m <= count; m++) {
-        headed = 0
-        for (i = 1; i <= def_count; i++) {
-            d = order[i]
-            if (index(d, sequence[m] ".") != 1 || said[d] !~ /"[^" ]+ [^"]*"|`[^`]+ [^`]+ [^`]+`/) continue
-            if (!headed) { printf "\n### %s\n\n%s\n\n", shown(sequence[m]), title_of[sequence[m]] >> page; headed = 1 }
-            quoted++
-            printf "- %s: %s\n", linked(d), said[d] >> page
-            list = ""; k = 0
-            for (j = 1; j <= promise_count; j++) if ((promised[j] SUBSEP d) in reached && promised[j] != d) { k++; list = list (list == "" ? "" : ", ") "`" substr(promised[j], 17) "`" }
-            if (k > 6) printf "  - promises that rest on it: %d of %d\n", k, promise_count >> page
-            else if (k > 0) printf "  - promises that rest on it: %s\n", list >> page
-            list = ""; k = 0
-            for (j = 1; j <= fn_count; j++) if ((functions[j] SUBSEP d) in spoken) { k++; list = list (list == "" ? "" : ", ") "`" functions[j] "`" }
-            if (k > 12) printf "  - functions whose contracts speak of it: %d\n", k >> page
-            else if (k > 0) printf "  - functions whose contracts speak of it: %s\n", list >> page
-            list = stated(d)
-            if (list != "") printf "  - stated of it: %s\n", list >> page
-            if (guards[shown(d)] != "") { printf "  - wrong programs that are refused:\n" >> page; wrong(shown(d), "    ") }
-            else without = without (without == "" ? "" : ", ") "`" shown(d) "`"
-        }
-    }
-    printf "\n## The statements\n" >> page
-    for (m = 1; m <= module_count; m++) {
-        if (modules[m] !~ /^demands\./) continue
-        printf "\n### %s\n\n%s\n\n", modules[m], title_of[modules[m]] >> page
-        for (i = 1; i <= def_count; i++) {
-            d = order[i]
-            if (index(d, modules[m] ".") != 1) continue
-            if (!is_statement(d)) continue
-            printf "- %s: %s\n", linked(d), said[d] >> page
-            if (guards[d] != "") { printf "  - wrong statements that are refused:\n" >> page; wrong(d, "    ") }
-        }
-    }
-    printf "\n## Other names that edits guard\n\nWords of other crates, and functions below the face.\n\n" >> page
-    for (g = 1; g <= guard_count; g++) {
-        name = guarded[g]
-        if (name in told) continue
-        key = ""
-        for (i = 1; i <= def_count; i++) if (order[i] == name || order[i] == "layout." name || (key == "" && substr(order[i], length(order[i]) - length(name)) == "." name)) key = order[i]
-        if (key != "") printf "- %s: %s\n", linked(key), said[key] >> page
-        else if (name in about) printf "- `%s`: %s\n", name, about[name] >> page
-        else printf "- `%s`\n", name >> page
-        wrong(name, "  ")
-    }
+    definitions()
+    statements()
+    other_names()
     printf "\n## Without a wrong program of their own\n\n%d definitions quote a sentence. Of these no edit names: %s.\n", quoted, without >> page
     exit bad
 }
