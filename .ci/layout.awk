@@ -1,0 +1,62 @@
+# The tables of docs/LAYOUT.md against the definitions: the range of each byte, the chord types in order, the numbers of refusal. Prints where they differ.
+# Files: Ranges.antt, Plays.antt and Refusals.antt of crates/layout/specs, then the page.
+
+
+# A range as the page spells it: lowest and highest, or one value, or any.
+function spelled(text) {
+    if (text ~ /any$/) return "00-FF"
+    return text ~ /-/ ? text : text "-" text
+}
+
+FILENAME ~ /Ranges\.antt$/ && /^ranges =/ { inside = 1 }
+FILENAME ~ /Ranges\.antt$/ && inside {
+    line = $0
+    while (match(line, /0x[0-9A-F]+ to 0x[0-9A-F]+/)) {
+        split(substr(line, RSTART, RLENGTH), bound, / to /)
+        range[bytes++] = substr(bound[1], 3) "-" substr(bound[2], 3)
+        line = substr(line, RSTART + RLENGTH)
+    }
+    if (/∷ \[\]/) inside = 0
+}
+
+FILENAME ~ /Plays\.antt$/ && /^chordTypes =/ { inside = 1 }
+FILENAME ~ /Plays\.antt$/ && inside {
+    n = split($0, quoted, "\"")
+    for (i = 2; i <= n; i += 2) chord[types++] = quoted[i]
+    if (/∷ \[\]/) inside = 0
+}
+
+FILENAME ~ /Refusals\.antt$/ && /^[a-zA-Z]+ = [0-9]+$/ { number[$1] = $3; numbers++ }
+
+FILENAME !~ /LAYOUT\.md$/ { next }
+/^## / { part = substr($0, 4) }
+{ cells = split($0, cell, / *\| */) }
+
+part == "The record" && cell[2] ~ /^[0-9]+(-[0-9]+)?$/ {
+    split(cell[2], place, "-"); last = place[2] == "" ? place[1] : place[2]
+    ranges = split(cell[4], told, ", ")
+    for (k = place[1] + 0; k <= last + 0; k++) {
+        shown = spelled(k == place[1] || ranges == 1 ? told[1] : told[2])
+        if (shown != range[k]) print "docs/LAYOUT.md: byte " k " is " shown ", and " range[k] " in Ranges.ranges"
+        met++
+    }
+}
+part == "Who plays" && cell[2] ~ /^[0-9]+-[0-9]+$/ {
+    split(cell[2], place, "-"); names = cell[4]; sub(/;.*/, "", names); split(names, told, ", ")
+    for (k = place[1] + 0; k <= place[2] + 0; k++) {
+        if (told[k - place[1] + 1] != chord[k]) print "docs/LAYOUT.md: chord type " k " is " told[k - place[1] + 1] ", and " chord[k] " in Plays.chordTypes"
+        named++
+    }
+    if (cell[3] != 17 - int(place[1] / 8)) print "docs/LAYOUT.md: types " cell[2] " stand in byte " 17 - int(place[1] / 8) ", and not in " cell[3]
+}
+part == "Refusals" && cell[5] ~ /^`Refusals\./ {
+    name = substr(cell[5], 11); sub(/`.*/, "", name)
+    if (number[name] != cell[2]) print "docs/LAYOUT.md: " name " is " cell[2] ", and " number[name] " in Refusals"
+    refused++
+}
+
+END {
+    if (met != bytes || bytes == 0) print "docs/LAYOUT.md has " met + 0 " bytes of the record, Ranges.ranges " bytes + 0
+    if (named != types || types == 0) print "docs/LAYOUT.md has " named + 0 " chord types, Plays.chordTypes " types + 0
+    if (refused != numbers - 1) print "docs/LAYOUT.md has " refused + 0 " refusals, Refusals " numbers - 1
+}
