@@ -220,6 +220,20 @@ function promises_page(i, f) {
 # A comment quotes a document where it has a phrase in quotes, and not only a tag.
 function quotes(text) { return text ~ /"[^" ]+ [^"]*"|`[^`]+ [^`]+ [^`]+`/ }
 
+# The modules of demands, and the statements, that quote a sentence which this comment quotes too: of each quotation its parts of 24 letters or more.
+function quoted_again(text, n, i, k, j, m, phrase, piece, list, met) {
+    n = split(tolower(text), phrase, "\"")
+    for (i = 2; i <= n; i += 2) {
+        k = split(phrase[i], piece, / *(\.\.|[.;:]) */)
+        for (j = 1; j <= k; j++) {
+            if (length(piece[j]) < 24) continue
+            for (m = 1; m <= module_count; m++) if (modules[m] ~ /^demands\./ && index(tolower(title_of[modules[m]]), piece[j]) && !(modules[m] in met)) { met[modules[m]] = 1; list = commas(list, linked(modules[m])) }
+            for (m = 1; m <= def_count; m++) if (is_statement(order[m]) && index(tolower(said[order[m]]), piece[j]) && !(order[m] in met)) { met[order[m]] = 1; list = commas(list, linked(order[m])) }
+        }
+    }
+    return list
+}
+
 # A definition that quotes a sentence, and what rests on it.
 function definition(d, i, k, list) {
     printf "- %s: %s\n", linked(d), said[d] >> page
@@ -230,6 +244,8 @@ function definition(d, i, k, list) {
     if (k > 0) printf "  - functions whose contracts speak of it: %s\n", (k > 12 ? k : list) >> page
     list = stated(d)
     if (list != "") printf "  - stated of it: %s\n", list >> page
+    list = quoted_again(said[d])
+    if (list != "") printf "  - its sentence again in: %s\n", list >> page
     if (guards[shown(d)] != "") { printf "  - wrong programs that are refused:\n" >> page; wrong(shown(d), "    ") }
     else without = commas(without, "`" shown(d) "`")
 }
