@@ -1,7 +1,6 @@
 -- The chord types: those of a byte are a part of the table, by computation, and so they are those of the table one by one. The mask by one law.
 use Prim.Native.Nat.{ℕ, _+_, _-_, _*_, _<_}
 use mathlib.Core.Path.{_≡_, refl, sym, ap, _∙_}
-use mathlib.Core.List.{List}
 use lib.ListN.{length, getD, take, drop}
 use lib.Seq.{getD-take, getD-drop}
 use Rattle.layout.specs.Lists.{All}
