@@ -1,6 +1,8 @@
 pub mod Marked
 pub mod Salvage
 pub mod Rounds
+pub mod Placing
+pub mod Playing
 pub mod Refusals
 pub mod Sound
 pub mod LentMemory

@@ -2,6 +2,8 @@ pub mod Calls
 pub mod Examples
 pub mod Salvage
 pub mod Rounds
+pub mod Placing
+pub mod Playing
 pub mod Refusals
 pub mod Sound
 pub mod LentMemory

@@ -2,6 +2,7 @@
 use Prim.Native.Nat.{ℕ}
 use mathlib.Core.Path.{_≡_, refl, sym, _∙_, ap}
 use mathlib.Core.Bool.{Bool, true, false, cond, _&&_, _||_, not}
+use mathlib.Core.Logic.{_↔_}
 use native.Mathlib.Omega.{arith}
 use lib.Dec.{ltb, leb, eqb}
 use lib.IntN.{pos, _+ℤ_}
@@ -66,15 +67,23 @@ module _ (r : Record) (root n : ℕ) where
   -- ---- the same of the answer of the call
 
   module _ (p : Placed) (told : NotePlaced r root n p) where
+    -- an accepted answer is that of what was granted
+    accepted-granted : p .number ≡ 0 → (h : Heard) × ((notePlaced r root n ≡ granted h) × (p ≡ placed (granted h)))
+    unfolding placed
+    accepted-granted e = go (notePlaced r root n) refl told
+      where
+        go : (a : Answer Heard) → notePlaced r root n ≡ a → p ≡ placed a → (h : Heard) × ((notePlaced r root n ≡ granted h) × (p ≡ placed (granted h)))
+        go (refused number place) g q = let z : number ≡ 0 = sym (ap (λ (x : Placed). x .number) q) ∙ e in absurd (never-refused-0 place (rw z at g))
+        go (granted h) g q = (h, (g, q))
+
     -- an accepted answer without silence has the note that document 01 names
     pub told-sounds : p .number ≡ 0 → p .silent ≡ false → Sounds (pos n +ℤ shift r root) (r .low) (r .high) (p .note)
     unfolding placed
-    told-sounds e f = go (notePlaced r root n) refl told
+    told-sounds e f = let a = accepted-granted e in go (a .0) (a .1 .0) (a .1 .1)
       where
-        go : (a : Answer Heard) → notePlaced r root n ≡ a → p ≡ placed a → Sounds (pos n +ℤ shift r root) (r .low) (r .high) (p .note)
-        go (refused number place) g q = let z : number ≡ 0 = sym (ap (λ (x : Placed). x .number) q) ∙ e in absurd (never-refused-0 place (rw z at g))
-        go (granted silence) g q = let z : true ≡ false = sym (ap (λ (x : Placed). x .silent) q) ∙ f in never (cc)
-        go (granted (note m)) g q = rw q (placed-sounds m g)
+        go : (h : Heard) → notePlaced r root n ≡ granted h → p ≡ placed (granted h) → Sounds (pos n +ℤ shift r root) (r .low) (r .high) (p .note)
+        go silence g q = let z : true ≡ false = sym (ap (λ (x : Placed). x .silent) q) ∙ f in never (cc)
+        go (note m) g q = rw q (placed-sounds m g)
 
     -- an answer with silence: no octave of note plus shift lies within both limits
     pub told-silent : p .silent ≡ true → NoneWithin (pos n +ℤ shift r root) (r .low) (r .high)
@@ -85,3 +94,25 @@ module _ (r : Record) (root n : ℕ) where
         go (refused number place) g q = let z : false ≡ true = sym (ap (λ (x : Placed). x .silent) q) ∙ f in never (cc)
         go (granted silence) g q = placed-silent g
         go (granted (note m)) g q = let z : false ≡ true = sym (ap (λ (x : Placed). x .silent) q) ∙ f in never (cc)
+
+    -- the note that document 01 names is told, and no other
+    pub sounds-told : p .number ≡ 0 → (m : ℕ) → ((p .silent ≡ false) × (p .note ≡ m)) ↔ Sounds (pos n +ℤ shift r root) (r .low) (r .high) m
+    unfolding placed
+    sounds-told e m = (λ t. rw (t .1) at (told-sounds e (t .0)), back)
+      where
+        back : Sounds (pos n +ℤ shift r root) (r .low) (r .high) m → (p .silent ≡ false) × (p .note ≡ m)
+        back s =
+            let a = accepted-granted e in
+            let q : p ≡ placed (granted (note m)) = a .1 .1 ∙ ap (λ (x : Heard). placed (granted x)) (sounds-placed (a .0) m (a .1 .0) s) in
+            (ap (λ (x : Placed). x .silent) q, ap (λ (x : Placed). x .note) q)
+
+    -- silence is told, with note 0, exactly when no octave of note plus shift lies within both limits
+    pub silence-told : p .number ≡ 0 → ((p .silent ≡ true) × (p .note ≡ 0)) ↔ NoneWithin (pos n +ℤ shift r root) (r .low) (r .high)
+    unfolding placed
+    silence-told e = (λ t. told-silent (t .0), back)
+      where
+        back : NoneWithin (pos n +ℤ shift r root) (r .low) (r .high) → (p .silent ≡ true) × (p .note ≡ 0)
+        back f =
+            let a = accepted-granted e in
+            let q : p ≡ placed (granted silence) = a .1 .1 ∙ ap (λ (x : Heard). placed (granted x)) (none-placed (a .0) (a .1 .0) f) in
+            (ap (λ (x : Placed). x .silent) q, ap (λ (x : Placed). x .note) q)

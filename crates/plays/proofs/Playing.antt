@@ -1,155 +1,112 @@
 -- What `playing` says of a group: the source channels of exactly those records whose two bits are set, in Ctab order, each once.
--- By induction on the records; that a group's source channels are apart is what the reader's rules say of its Ctabs.
-use Prim.Native.Nat.{ℕ, zero, suc, _+_, _*_, _≤_, _<_}
+-- They are those of a list that pass a test, and that a group's source channels are apart is what the reader's rules say of its Ctabs.
+use Prim.Native.Nat.{ℕ, _+_, _*_, _-_, _≤_, _<_}
 use native.Mathlib.Omega.{arith}
-use mathlib.Core.Path.{_≡_, refl, sym, ap, _∙_}
-use mathlib.Core.Logic.{_⊎_, inl, inr, ∥∥₁-elim}
-use mathlib.Core.HLevel.{⊥-prop}
-use mathlib.Core.Bool.{Bool, true, false, cond, false≢true, and-eq-true-iff}
-use mathlib.Core.List.{List, [], _∷_, map, List·Memᴰ, List·Memᴰ·head, List·Memᴰ·tail, List·Memᴰ·cases-cons, List·Memᴰ·not-nil, Memᴰ·map, Memᴰ·of-map, Sublistᴰ, Sublistᴰ·slnil, Sublistᴰ·cons, Sublistᴰ·cons-cons, List·Nodup, Pairwise·sublistᴰ, nodup-nil, nodup-cons}
-use lib.ListN.{drop}
-use Rattle.layout.specs.Lists.{those, rows}
+use native.Mathlib.Decide.{decLt}
+use mathlib.Core.Path.{_≡_, sym, ap, _∙_}
+use mathlib.Core.Bool.{true, and-eq-true-iff}
+use mathlib.Core.List.{List}
+use lib.ListN.{length, getD, drop, replicate, length-append, length-replicate, getD-replicate, List·getD-eq-default, List·getD-append}
+use lib.Seq.{getD-append-add}
+use Rattle.layout.specs.Lists.{rows}
 use Rattle.layout.specs.Ranges.{firstEdition}
 use Rattle.layout.specs.declared.record.SourceChannel.{SourceChannel}
 use Rattle.layout.specs.declared.record.Record.{Record}
 use Rattle.layout.specs.declared.turn.Run.the-variants.{Ended}
+use Rattle.layout.specs.Records.{blank, channelOf}
 use Rattle.layout.specs.Group.{payload, Group, ctabChannel, recordAt, groupOf}
 use Rattle.layout.specs.Body.{groupPlace, bodyRun, groupValue, groupNo}
-use Rattle.layout.specs.Plays.{bit, rootMask, chordMask, playsUnder, playing}
-use Rattle.layout.proofs.Sixteen.{Channels, group-apart}
+use Rattle.layout.specs.Plays.{bit, rootMask, chordMask, playsUnder, playing, noChannel, inSixteen}
+use Rattle.layout.proofs.Lists.{rows-length, getD-rows}
+use Rattle.layout.proofs.Sixteen.{Channels, at-most-sixteen, group-apart}
 use Rattle.layout.proofs.RecordBytes.{record-channel}
 use Rattle.layout.proofs.Accepted.{body-accepted}
+use Rattle.plays.proofs.Picked.{Picked, those-picked}
 
-infix 60 _∈_
--- a is one of the list
-abbrev pub _∈_ : {A : Type 0} → A → List A → Type 0
-a ∈ xs = List·Memᴰ a xs
+-- ---- the sixteen places
 
--- the source channels of a group's records, in Ctab order
-abbrev pub channelsOf : Group → List SourceChannel
-channelsOf g = map (λ r. r .source) (g .records)
+module _ (cs : List SourceChannel) where
+  pub place-used : (k : ℕ) → k < length cs → getD (inSixteen cs) k noChannel ≡ getD cs k noChannel
+  unfolding inSixteen
+  place-used k l = List·getD-append cs (replicate (16 - length cs) noChannel) noChannel k l
 
--- ---- those of a list that pass a test
-
-module _ {A : Type 0} (p : A → Bool) where
-  those-in : (xs : List A) (a : A) → a ∈ xs → p a ≡ true → a ∈ those p xs
-  unfolding those
-  those-in [] a m h = absurd (List·Memᴰ·not-nil m)
-  those-in (x ∷ xs) a m h = go (p x) refl (List·Memᴰ·cases-cons m) (λ n. those-in xs a n h)
+  pub place-unused : (k : ℕ) → length cs ≤ k → getD (inSixteen cs) k noChannel ≡ noChannel
+  unfolding inSixteen
+  place-unused k l =
+      let z : length cs + (k - length cs) ≡ k = omega arith in
+      (rw z at (getD-append-add cs (replicate (16 - length cs) noChannel) (k - length cs) noChannel)) ∙ none-there (16 - length cs) (k - length cs)
     where
-      go : (b : Bool) → p x ≡ b → (a ≡ x) ⊎ (a ∈ xs) → (a ∈ xs → a ∈ those p xs) → a ∈ cond b (x ∷ those p xs) (those p xs)
-      go true e (inl q) more = List·Memᴰ·head q
-      go true e (inr n) more = List·Memᴰ·tail (more n)
-      go false e (inl q) more = absurd (false≢true (sym e ∙ (ap p (sym q) ∙ h)))
-      go false e (inr n) more = more n
+      none-there : (n i : ℕ) → getD (replicate n noChannel) i noChannel ≡ noChannel
+      none-there n i = go (decLt i n)
+        where
+          go : Dec (i < n) → getD (replicate n noChannel) i noChannel ≡ noChannel
+          go (yes h) = getD-replicate n i noChannel noChannel h
+          go (no h) = List·getD-eq-default (replicate n noChannel) noChannel (omega (arith, length-replicate n noChannel))
 
-  those-pass : (xs : List A) (a : A) → a ∈ those p xs → (a ∈ xs) × (p a ≡ true)
-  unfolding those
-  those-pass [] a m = absurd (List·Memᴰ·not-nil m)
-  those-pass (x ∷ xs) a m = go (p x) refl m (λ n. those-pass xs a n)
-    where
-      under : (a ∈ xs) × (p a ≡ true) → (a ∈ x ∷ xs) × (p a ≡ true)
-      under r = (List·Memᴰ·tail (r .0), r .1)
+  pub sixteen-places : length cs ≤ 16 → length (inSixteen cs) ≡ 16
+  unfolding inSixteen
+  sixteen-places l = omega (arith, length-append cs (replicate (16 - length cs) noChannel), length-replicate (16 - length cs) noChannel)
 
-      here : p x ≡ true → (a ≡ x) ⊎ (a ∈ those p xs) → (a ∈ those p xs → (a ∈ xs) × (p a ≡ true)) → (a ∈ x ∷ xs) × (p a ≡ true)
-      here e (inl q) more = (List·Memᴰ·head q, ap p q ∙ e)
-      here e (inr n) more = under (more n)
+-- ---- who plays in a group
 
-      go : (b : Bool) → p x ≡ b → a ∈ cond b (x ∷ those p xs) (those p xs) → (a ∈ those p xs → (a ∈ xs) × (p a ≡ true)) → (a ∈ x ∷ xs) × (p a ≡ true)
-      go true e n more = here e (List·Memᴰ·cases-cons n) more
-      go false e n more = under (more n)
-
-  -- seen through f they keep their order
-  those-ordered : {B : Type 0} (f : A → B) (xs : List A) → Sublistᴰ (map f (those p xs)) (map f xs)
-  unfolding those
-  those-ordered f [] = Sublistᴰ·slnil
-  those-ordered f (x ∷ xs) = go (p x) (those-ordered f xs)
-    where
-      go : (b : Bool) → Sublistᴰ (map f (those p xs)) (map f xs) → Sublistᴰ (map f (cond b (x ∷ those p xs) (those p xs))) (f x ∷ map f xs)
-      go true more = Sublistᴰ·cons-cons refl more
-      go false more = Sublistᴰ·cons more
-
--- ---- who plays
+-- the source channel of record number i of these
+abbrev pub channelIn : List Record → ℕ → ℕ
+channelIn rs i = channelOf (getD rs i blank)
 
 module _ (g : Group) (root type : ℕ) where
-  -- in Ctab order: the channels that are told are those of the group with the others left out
-  pub told-in-order : Sublistᴰ (playing g root type) (channelsOf g)
+  -- they are the source channels of the records that play, in Ctab order
+  pub players-picked : Picked (playsUnder root type) (λ r. r .source) blank (g .records) (playing g root type)
   unfolding playing
-  told-in-order = those-ordered (playsUnder root type) (λ r. r .source) (g .records)
+  players-picked = those-picked (playsUnder root type) (λ r. r .source) blank (g .records)
 
-  -- every record with both bits set is told
-  pub players-told : (r : Record) → r ∈ g .records → bit (rootMask r) root ≡ true → bit (chordMask r) type ≡ true → r .source ∈ playing g root type
-  unfolding playing playsUnder
-  players-told r m h k = Memᴰ·map (λ (x : Record). x .source) (those-in (playsUnder root type) (g .records) r m (rw (h, k)))
+  -- a record that is told has both its bits set ..
+  pub told-bits : (k : ℕ) → k < length (playing g root type)
+      → (bit (rootMask (getD (g .records) (players-picked .row k) blank)) root ≡ true) × (bit (chordMask (getD (g .records) (players-picked .row k) blank)) type ≡ true)
+  unfolding playsUnder
+  told-bits k l = let r = getD (g .records) (players-picked .row k) blank in and-eq-true-iff (bit (rootMask r) root) (bit (chordMask r) type) .0 (players-picked .passes k l)
 
-  -- and nothing else is
-  pub told-play : (c : SourceChannel) → c ∈ playing g root type
-      → (r : Record) × ((r ∈ g .records) × ((r .source ≡ c) × ((bit (rootMask r) root ≡ true) × (bit (chordMask r) type ≡ true))))
-  unfolding playing playsUnder
-  told-play c m =
-      let t = Memᴰ·of-map (λ (x : Record). x .source) (those (playsUnder root type) (g .records)) m in
-      let q = those-pass (playsUnder root type) (g .records) (t .0) (t .1) in
-      (t .0, (q .0, (t .2, and-eq-true-iff (bit (rootMask (t .0)) root) (bit (chordMask (t .0)) type) .0 (q .1))))
+  -- .. and every record with both bits set is told
+  pub bits-told : (i : ℕ) → i < length (g .records) → bit (rootMask (getD (g .records) i blank)) root ≡ true → bit (chordMask (getD (g .records) i blank)) type ≡ true
+      → (k : ℕ) × ((k < length (playing g root type)) × (players-picked .row k ≡ i))
+  unfolding playsUnder
+  bits-told i l h b = players-picked .every i l (rw (h, b))
 
-  -- each once, where the group's source channels are apart
-  pub told-once : List·Nodup (channelsOf g) → List·Nodup (playing g root type)
-  told-once h = Pairwise·sublistᴰ told-in-order h
+  -- source channel number k of the sixteen places
+  abbrev toldAt : ℕ → ℕ
+  toldAt k = getD (inSixteen (playing g root type)) k noChannel .0
+
+  pub told-channel : (k : ℕ) → k < length (playing g root type) → toldAt k ≡ channelIn (g .records) (players-picked .row k)
+  unfolding channelOf
+  told-channel k l = ap (λ (c : SourceChannel). c .0) (place-used (playing g root type) k l ∙ players-picked .is k l)
+
+  -- where the group's source channels are apart, each is told once, and they fit
+  module _ (a : Channels (channelIn (g .records)) (length (g .records))) where
+    pub told-once : (j k : ℕ) → j < k → k < length (playing g root type) → toldAt j ≡ toldAt k → ⊥
+    told-once j k h l e =
+        a .apart (players-picked .row j) (players-picked .row k) (players-picked .order j k h l) (players-picked .there k l) (sym (told-channel j (omega arith)) ∙ (e ∙ told-channel k l))
+
+    pub told-in-sixteen : length (inSixteen (playing g root type)) ≡ 16
+    told-in-sixteen =
+        sixteen-places (playing g root type)
+        (at-most-sixteen toldAt (length (playing g root type)) (record { low = λ k l. rw (told-channel k l) (a .low (players-picked .row k) (players-picked .there k l)); apart = told-once }))
 
 -- ---- the source channels of a group of an accepted body are apart
 
-module _ {A : Type 0} (f : ℕ → A) where
-  row-is : (n k : ℕ) (a : A) → a ∈ rows f k n → (i : ℕ) × ((k ≤ i) × ((i < k + n) × (a ≡ f i)))
-  unfolding rows
-  row-is zero k a m = absurd (List·Memᴰ·not-nil m)
-  row-is (suc n) k a m = go (List·Memᴰ·cases-cons m) (λ d. row-is n (suc k) a d)
-    where
-      go : (a ≡ f k) ⊎ (a ∈ rows f (suc k) n) → (a ∈ rows f (suc k) n → (i : ℕ) × ((suc k ≤ i) × ((i < suc k + n) × (a ≡ f i)))) → (i : ℕ) × ((k ≤ i) × ((i < k + suc n) × (a ≡ f i)))
-      go (inl q) more = (k, (omega arith, (omega arith, q)))
-      go (inr d) more =
-          let r = more d in
-          let i = r .0 in
-          let l : suc k ≤ i = r .1 .0 in
-          let h : i < suc k + n = r .1 .1 .0 in
-          (i, (omega arith, (omega arith, r .1 .1 .1)))
-
-  rows-apart : (n k : ℕ) → ((i j : ℕ) → i < j → j < k + n → f i ≡ f j → ⊥) → List·Nodup (rows f k n)
-  unfolding rows
-  rows-apart zero k h = nodup-nil
-  rows-apart (suc n) k h = nodup-cons .1 (λ m. ∥∥₁-elim m ⊥-prop fresh, rows-apart n (suc k) (λ i j l d. h i j l (omega arith)))
-    where
-      fresh : f k ∈ rows f (suc k) n → ⊥
-      fresh d =
-          let r = row-is n (suc k) (f k) d in
-          let i = r .0 in
-          let a : suc k ≤ i = r .1 .0 in
-          let b : i < suc k + n = r .1 .1 .0 in
-          h k i (omega arith) (omega arith) (r .1 .1 .1)
-
-map-rows : {A B : Type 0} (h : A → B) (f : ℕ → A) (n k : ℕ) → map h (rows f k n) ≡ rows (λ i. h (f i)) k n
-unfolding rows
-map-rows h f zero k = refl
-map-rows {A} {B} h f (suc n) k = ap (λ (x : List B). h (f k) ∷ x) (map-rows h f n (suc k))
-
-records-apart : (c : List ℕ) (t n m : ℕ) → Channels (ctabChannel firstEdition c (8 + t)) n → List·Nodup (channelsOf (groupOf c t n m))
-unfolding groupOf
+records-apart : (c : List ℕ) (t n m : ℕ) → Channels (ctabChannel firstEdition c (8 + t)) n → Channels (channelIn (groupOf c t n m .records)) (length (groupOf c t n m .records))
+unfolding groupOf channelOf
 records-apart c t n m a =
-    rw (map-rows (λ (r : Record). r .source) (recordAt c (8 + t) (8 + t + 35 * n) m) n 0)
-    (rows-apart (λ i. recordAt c (8 + t) (8 + t + 35 * n) m i .source) n 0 apart)
-  where
-    apart : (i j : ℕ) → i < j → j < 0 + n → recordAt c (8 + t) (8 + t + 35 * n) m i .source ≡ recordAt c (8 + t) (8 + t + 35 * n) m j .source → ⊥
-    apart i j h l e =
-        a .apart i j h (omega arith)
-        (sym (record-channel c (8 + t) (8 + t + 35 * n) m i) ∙ (ap (λ (x : SourceChannel). x .0) e ∙ record-channel c (8 + t) (8 + t + 35 * n) m j))
+    let row : ℕ → Record = recordAt c (8 + t) (8 + t + 35 * n) m in
+    let long : length (rows row 0 n) ≡ n = rows-length row 0 n in
+    let at : (i : ℕ) → i < n → channelIn (rows row 0 n) i ≡ ctabChannel firstEdition c (8 + t) i = λ i l. ap channelOf (getD-rows row blank n i l) ∙ record-channel c (8 + t) (8 + t + 35 * n) m i in
+    record {
+      low = λ i l. rw (at i (omega arith)) (a .low i (omega arith));
+      apart = λ i j h l e. a .apart i j h (omega arith) (sym (at i (omega arith)) ∙ (e ∙ at j (omega arith)));
+    }
 
-module _ (s : List ℕ) (n g : ℕ) (run : bodyRun s ≡ Ended n) (l : g < n) where
-  pub group-channels-apart : List·Nodup (channelsOf (groupNo s g))
-  unfolding groupNo groupValue
-  group-channels-apart =
-      let more = body-accepted s n run .each g l in
-      rw (more .sound, groupValue)
-      (records-apart (payload (drop (groupPlace s g) s)) (more .text) (more .ctabs) (more .cntts)
-      (group-apart (drop (groupPlace s g) s) (more .text) (more .ctabs) (more .cntts) (more .sound)))
-
-  -- so in an accepted body each channel is told once
-  pub told-once-in-body : (root type : ℕ) → List·Nodup (playing (groupNo s g) root type)
-  told-once-in-body root type = told-once (groupNo s g) root type group-channels-apart
+pub group-channels-apart : (s : List ℕ) (n g : ℕ) → bodyRun s ≡ Ended n → g < n → Channels (channelIn (groupNo s g .records)) (length (groupNo s g .records))
+unfolding groupNo groupValue
+group-channels-apart s n g run l =
+    let more = body-accepted s n run .each g l in
+    rw (more .sound, groupValue)
+    (records-apart (payload (drop (groupPlace s g) s)) (more .text) (more .ctabs) (more .cntts)
+    (group-apart (drop (groupPlace s g) s) (more .text) (more .ctabs) (more .cntts) (more .sound)))

@@ -11,6 +11,7 @@ pub mod Asked
 pub mod Records
 pub mod Written
 pub mod Above
+pub mod Players
 pub mod Reached
 pub mod FileExact
 pub mod TextExact
