@@ -1,12 +1,18 @@
-# Read by bench/run, bench/header and examples/build, which set `here` to the repository's folder: where the kit's C tools are, and how a program is built over the archive and started.
+# Read by bench/run, bench/header, examples/build, .ci/script and .ci/compare, which set `here` to the repository's folder: where the kit's C tools are, and how a program is built over the archive and started.
 machine=$(uname -m)
 home=${RATTLE_HOME:-$(dirname "$(dirname "$(rt doc)")")}
 kit=$home/on/$machine/toolchain
 lib=$here/target/staticlib
 
-# The archive, proved first. What rt says is printed where it fails.
+# The archive, proved and written where a crate changed since. What rt says is printed where it fails.
 archive() {
-    said=$(cd "$here" && rt staticlib export 2>&1) || { echo "$said"; echo "rt staticlib export failed"; exit 1; }
+    stamp=$lib/written
+    if [ ! -f "$lib/libexport.a" ] || [ ! -f "$stamp" ] || [ -n "$(find "$here/crates" "$here/crates.txt" -newer "$stamp" -print -quit)" ]; then
+        mkdir -p "$lib"
+        touch "$stamp.begun"
+        said=$(cd "$here" && rt staticlib export 2>&1) || { echo "$said"; echo "rt staticlib export failed"; exit 1; }
+        mv "$stamp.begun" "$stamp"
+    fi
 }
 
 # compile SOURCE OBJECT OPTION ..
