@@ -42,11 +42,11 @@ pub fn group_of_number<'a, 'b>(groups: &'b [Group<'a>], number: u32) -> Answer<&
     }
 }
 
-/// The group of a part name, or 15; names match whole, byte by byte.
-pub fn group_of_part<'a, 'b>(groups: &'b [Group<'a>], part: &[u8]) -> Answer<&'b Group<'a>> {
-    let with_part = |group: &&Group| names(group.text).any(|name| name == part);
-    match groups.iter().find(with_part) {
-        Some(group) => Ok(group),
+/// The number of the group that has a part name, or 15; names match whole, byte by byte.
+pub fn number_of_part(groups: &[Group], part: &[u8]) -> Answer<usize> {
+    let has_part = |group: &Group| names(group.text).any(|name| name == part);
+    match groups.iter().position(has_part) {
+        Some(number) => Ok(number),
         None => refuse(15, 0),
     }
 }

@@ -4,6 +4,7 @@
 use crate::body::{read_body, read_group};
 use crate::edit::edit;
 use crate::list::LIST_ROOM;
+use crate::lookup::{find_channel, find_group, find_part};
 use crate::place::place_note;
 use crate::plays::who_plays;
 use crate::record::{Record, FIELDS};
@@ -18,8 +19,9 @@ use std::fmt::Write as _;
 use std::io::{self, BufRead, Write};
 
 /// The verbs of the protocol, in its order.
-pub const VERBS: [&str; 10] = [
-    "find", "body", "group", "voice", "plays", "place", "write", "edit", "screen", "salvage",
+pub const VERBS: [&str; 13] = [
+    "find", "body", "group", "voice", "plays", "place", "write", "edit", "screen", "part", "where",
+    "channel", "salvage",
 ];
 
 /// The most that a line may lend.
@@ -92,6 +94,11 @@ fn run(tokens: &[&[u8]]) -> Option<String> {
         )),
         (b"screen", &[rec, index, value]) => {
             Some(run_screen(record(rec)?, number(index)?, byte(value)?))
+        }
+        (b"part", &[body, part]) => Some(run_part(&bytes(body)?, &bytes(part)?)),
+        (b"where", &[body, group]) => Some(run_where(&bytes(body)?, number(group)?)),
+        (b"channel", &[body, group, channel]) => {
+            Some(run_channel(&bytes(body)?, number(group)?, byte(channel)?))
         }
         (b"salvage", &[body, lent]) => Some(run_salvage(&bytes(body)?, room(lent, LIST_ROOM)?)),
         _ => None,
@@ -197,6 +204,37 @@ fn run_screen(mut record: Record, index: u32, value: u8) -> String {
         Err(refusal) => refused(refusal),
     };
     format!("{result} {}", show_record(&record))
+}
+
+fn run_part(body: &[u8], part: &[u8]) -> String {
+    match find_part(body, part) {
+        Ok(number) => format!("ok {number}"),
+        Err(refusal) => refused(refusal),
+    }
+}
+
+fn run_where(body: &[u8], group: u32) -> String {
+    match find_group(body, group) {
+        Ok(found) => format!(
+            "ok {} {} {} {} {} {} {} {}",
+            found.place,
+            found.size,
+            found.text,
+            found.text_length,
+            found.ctabs.place,
+            found.ctabs.count,
+            found.cntts.place,
+            found.cntts.count,
+        ),
+        Err(refusal) => refused(refusal),
+    }
+}
+
+fn run_channel(body: &[u8], group: u32, channel: u8) -> String {
+    match find_channel(body, group, channel) {
+        Ok((number, place)) => format!("ok {number} {place}"),
+        Err(refusal) => refused(refusal),
+    }
 }
 
 fn run_salvage(body: &[u8], room: usize) -> String {

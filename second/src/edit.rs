@@ -1,13 +1,13 @@
 //! Editing one record inside a body: "Only that Ctab's 27 bytes may change; a Cntt given with
 //! the new record is neither read nor checked". Order: body, 16, 15, source channel 16, 9.
 
-use crate::body::{group_of_number, read_body};
+use crate::lookup::find_channel;
 use crate::record::{first_out_of_range, Record, FIELDS};
 use crate::refusal::{refuse, Answer};
 
 /// Replaces the record of a group and source channel.
 pub fn edit(body: &mut [u8], group: u32, channel: u8, record: &Record) -> Answer<()> {
-    let place = ctab_place(body, group, channel)?;
+    let (_, place) = find_channel(body, group, channel)?;
     if record.source_channel() != channel {
         return refuse(16, 0);
     }
@@ -17,14 +17,4 @@ pub fn edit(body: &mut [u8], group: u32, channel: u8, record: &Record) -> Answer
     body[place..place + FIELDS].copy_from_slice(&record.bytes);
     body[place + FIELDS] = 0x00;
     Ok(())
-}
-
-/// The place of the Ctab's first payload byte.
-fn ctab_place(body: &[u8], group: u32, channel: u8) -> Answer<usize> {
-    let groups = read_body(body)?;
-    let group = group_of_number(&groups, group)?;
-    match group.ctab_of(channel) {
-        Some(number) => Ok(group.ctabs[number].place),
-        None => refuse(15, 0),
-    }
 }

@@ -8,6 +8,7 @@ pub mod edit;
 pub mod gen;
 pub mod group;
 pub mod list;
+pub mod lookup;
 pub mod place;
 pub mod plays;
 pub mod record;

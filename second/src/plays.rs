@@ -1,7 +1,7 @@
 //! Who plays: "when bit r of the first and bit t of the second are set"; "For a part name,
 //! the answer is the source channels of its group that play, in Ctab order".
 
-use crate::body::{group_of_part, read_body};
+use crate::body::{number_of_part, read_body};
 use crate::bytes::number;
 use crate::record::Record;
 use crate::refusal::{refuse, Answer};
@@ -22,8 +22,8 @@ pub fn who_plays(body: &[u8], part: &[u8], root: u8, chord_type: u8) -> Answer<V
     if root >= ROOTS || chord_type >= TYPES {
         return refuse(16, 0);
     }
-    let group = group_of_part(&groups, part)?;
-    let records = group.ctabs.iter().map(|ctab| &ctab.record);
+    let number = number_of_part(&groups, part)?;
+    let records = groups[number].ctabs.iter().map(|ctab| &ctab.record);
     Ok(records
         .filter(|record| plays(record, root, chord_type))
         .map(Record::source_channel)

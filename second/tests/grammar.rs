@@ -119,7 +119,7 @@ fn forms_of_records() {
 }
 
 /// Lines that break the grammar, whatever their verb.
-const BAD_LINES: [&str; 36] = [
+const BAD_LINES: [&str; 51] = [
     "",
     " ",
     "body",
@@ -152,6 +152,21 @@ const BAD_LINES: [&str; 36] = [
     "screen - 0 0",
     "salvage -",
     "salvage - 8193",
+    "part -",
+    "part - - -",
+    "part - 4",
+    "part - Main",
+    "part - --",
+    "where -",
+    "where - 0 0",
+    "where - -1",
+    "where - 4294967296",
+    "where 0 0",
+    "channel - 0",
+    "channel - 0 256",
+    "channel - 4294967296 0",
+    "channel - 0 0 0",
+    "Channel - 0 0",
     "list -",
     "body 00\r",
     "#",
@@ -188,6 +203,12 @@ fn lines_at_the_edge_of_the_grammar() {
     is("voice - 0 255", "refused 16 0");
     is("plays - - 255 255", "refused 16 0");
     is("plays - - 0 0", "refused 15 0");
+    is("part - -", "refused 15 0");
+    is("part - 00*1048577", "refused 15 0");
+    is("part - 00*1048578", "bad");
+    is("where - 4294967295", "refused 16 0");
+    is("where 00*32769 4294967295", "refused 3 0");
+    is("channel - 4294967295 255", "refused 16 0");
     is(
         &format!("screen {rec} 4294967295 255"),
         &format!("refused 16 0 {rec}"),
@@ -266,6 +287,12 @@ fn one_answer_of_each_verb() {
         &format!("ok 0f{}", &rec[2..]),
     );
     is(&format!("screen {rec} 0 16"), &format!("refused 9 0 {rec}"));
+    is(&format!("part {hex} 4d61696e2041"), "ok 0");
+    is(&format!("part {hex} 4d61696e"), "refused 15 0");
+    is(&format!("where {hex} 0"), "ok 0 57 16 6 22 1 57 0");
+    is(&format!("where {hex} 1"), "refused 16 0");
+    is(&format!("channel {hex} 0 3"), "ok 0 30");
+    is(&format!("channel {hex} 0 255"), "refused 15 0");
     is(&format!("salvage {hex}00 2"), "ok 2 0,57,0 57,1,6 kept");
     is(&format!("salvage {hex}00 1"), "refused 14 0 kept");
 }

@@ -2,6 +2,7 @@
 
 mod common;
 
+use common::chunks::{groups, names, of_tag};
 use common::{entries_of, plain_record};
 use second::body::{read_body, read_group};
 use second::calls::answer;
@@ -147,7 +148,7 @@ fn every_cseg_begins_an_entry() {
 #[test]
 fn an_accepted_body_without_stray_cseg_lists_as_its_groups() {
     let mut seen = 0;
-    for body in some_bodies("body", 25, 3_000) {
+    for body in some_bodies("body", 25, 4_000) {
         let slices = match read_body(&body) {
             Ok(_) => group_slices(&body),
             Err(_) => continue,
@@ -309,6 +310,106 @@ fn a_voice_name_is_a_part_of_the_body() {
 }
 
 /// Placement against every octave of the value, the answer picked by the document's words.
+/// The numbers of an accepting answer; none of a refusal.
+fn numbers(words: &[String]) -> Option<Vec<usize>> {
+    (words[0] == "ok").then(|| words[1..].iter().map(|w| w.parse().unwrap()).collect())
+}
+
+/// The lines of a lookup on a sound body: that body, the other tokens and the answer. On any other
+/// body it is refused.
+fn lookups(verb: &'static str, seed: u64) -> Vec<(Vec<u8>, Vec<Vec<u8>>, Vec<String>)> {
+    let mut list = Vec::new();
+    for (mut parts, words) in answered(verb, seed, 4_000) {
+        let body = bytes(&parts[1]).unwrap();
+        if read_body(&body).is_ok() {
+            list.push((body, parts.split_off(2), words));
+        } else {
+            assert!(numbers(&words).is_none());
+        }
+    }
+    list
+}
+
+/// Each answer of `where`, and 16 exactly where the body has no such group.
+#[test]
+fn a_group_stands_where_its_chunks_do() {
+    let mut seen = 0;
+    for (body, asked, words) in lookups("where", 34) {
+        let groups = groups(&body);
+        let Some((group, children)) = groups.get(number(&asked[0]).unwrap() as usize) else {
+            assert_eq!(words, ["refused", "16", "0"]);
+            continue;
+        };
+        let (ctabs, cntts) = (of_tag(children, b"Ctab"), of_tag(children, b"Cntt"));
+        let (sdec, end) = (&children[0], group.end());
+        let first_cntt = cntts.first().map_or(end, |cntt| cntt.place);
+        let first_ctab = ctabs.first().map_or(first_cntt, |ctab| ctab.place);
+        let expected = [
+            group.place,
+            end - group.place,
+            sdec.place + 8,
+            sdec.payload.len(),
+            first_ctab,
+            ctabs.len(),
+            first_cntt,
+            cntts.len(),
+        ];
+        assert_eq!(numbers(&words), Some(expected.to_vec()));
+        seen += 1;
+    }
+    assert!(seen > 2_000, "{seen}");
+}
+
+/// Each answer of `channel`, and 15 exactly where no Ctab of the group begins with the channel.
+#[test]
+fn a_record_stands_where_its_ctab_does() {
+    let mut seen = [0; 3];
+    for (body, asked, words) in lookups("channel", 35) {
+        let group = number(&asked[0]).unwrap() as usize;
+        let channel = number(&asked[1]).unwrap();
+        let expected = groups(&body).get(group).map(|(_, children)| {
+            let ctabs = of_tag(children, b"Ctab");
+            let row = ctabs
+                .iter()
+                .position(|ctab| u32::from(ctab.payload[0]) == channel);
+            row.map(|row| vec![row, ctabs[row].place + 8])
+        });
+        let refusal = match &expected {
+            None => Some(16),
+            Some(None) => Some(15),
+            Some(Some(_)) => None,
+        };
+        match refusal {
+            Some(number) => assert_eq!(words, ["refused", &number.to_string(), "0"]),
+            None => assert_eq!(numbers(&words), expected.flatten()),
+        }
+        seen[refusal.map_or(0, |number| number - 14)] += 1;
+    }
+    assert!(
+        seen[0] > 1_000 && seen[1] > 300 && seen[2] > 100,
+        "{seen:?}"
+    );
+}
+
+/// Each answer of `part`, and 15 exactly where no group has the name.
+#[test]
+fn a_part_is_a_name_of_its_group() {
+    let mut seen = [0; 2];
+    for (body, asked, words) in lookups("part", 36) {
+        let part = bytes(&asked[0]).unwrap();
+        let groups = groups(&body);
+        let having: Vec<usize> = (0..groups.len())
+            .filter(|&number| names(&groups[number].1).contains(&&part[..]))
+            .collect();
+        seen[usize::from(!having.is_empty())] += 1;
+        match numbers(&words) {
+            Some(told) => assert_eq!(told, having),
+            None => assert_eq!((words[1].as_str(), having.len()), ("15", 0)),
+        }
+    }
+    assert!(seen[0] > 300 && seen[1] > 1_500, "{seen:?}");
+}
+
 #[test]
 fn placement_by_brute_force() {
     let mut dice = Dice::new(35);

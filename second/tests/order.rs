@@ -6,6 +6,7 @@ mod common;
 use common::{entries_of, m, n, plain_record, REFUSED_NONE};
 use second::body::{read_body, read_group};
 use second::edit::edit;
+use second::lookup::{find_channel, find_group, find_part};
 use second::place::place_note;
 use second::plays::who_plays;
 use second::record::Record;
@@ -359,6 +360,27 @@ fn questions_in_order() {
     }
     assert_eq!(who_plays(&body, b"A", 11, 33), Ok(vec![5, 2]));
     assert_eq!(who_plays(&body, b"C", 11, 33), Ok(vec![]));
+}
+
+#[test]
+fn lookups_in_order() {
+    let body = asked();
+    let damaged = &body[..body.len() - 1];
+    let refusal = (2, 97);
+    assert_eq!(no(find_part(damaged, b"D")), refusal);
+    assert_eq!(no(find_part(&body, b"D")), (15, 0));
+    assert_eq!(no(find_part(&[], b"A")), (15, 0));
+    assert_eq!(no(find_group(damaged, 9)), refusal);
+    assert_eq!(no(find_group(&body, 2)), (16, 0));
+    assert_eq!(no(find_group(&[], 0)), (16, 0));
+    assert_eq!(no(find_channel(damaged, 9, 99)), refusal);
+    assert_eq!(no(find_channel(&body, 2, 99)), (16, 0));
+    assert_eq!(no(find_channel(&body, 0, 99)), (15, 0));
+    assert_eq!(no(find_channel(&body, 1, 5)), (15, 0));
+    let long = vec![0; 32_769];
+    assert_eq!(no(find_part(&long, b"A")), (3, 0));
+    assert_eq!(no(find_group(&long, 0)), (3, 0));
+    assert_eq!(no(find_channel(&long, 0, 0)), (3, 0));
 }
 
 #[test]

@@ -3,10 +3,11 @@
 
 mod common;
 
+use common::chunks::{groups, names, of_tag};
 use common::place_kinds::{body_kind, file_kind};
 use second::calls::answer;
 use second::gen::{generate, verb_of, Outcome, Script};
-use second::script::{bytes, tokens};
+use second::script::{bytes, number, tokens};
 use std::collections::{BTreeMap, BTreeSet};
 
 /// The refusals of a strict body, which come first in every call on one.
@@ -19,7 +20,9 @@ fn allowed_numbers(verb: &str) -> Vec<u8> {
         "find" => vec![1, 2, 3, 4, 5],
         "body" => BODY.to_vec(),
         "group" => with_body(&[14, 16]),
-        "voice" | "plays" | "edit" => with_body(&[15, 16]),
+        "voice" | "plays" | "edit" | "channel" => with_body(&[15, 16]),
+        "part" => with_body(&[15]),
+        "where" => with_body(&[16]),
         "place" => vec![9, 16, 17],
         "write" => vec![8, 9, 10, 14, 16],
         "screen" => vec![9, 16],
@@ -28,8 +31,9 @@ fn allowed_numbers(verb: &str) -> Vec<u8> {
     }
 }
 
-const VERBS: [&str; 10] = [
-    "find", "body", "group", "voice", "plays", "place", "write", "edit", "screen", "salvage",
+const VERBS: [&str; 13] = [
+    "find", "body", "group", "voice", "plays", "place", "write", "edit", "screen", "part", "where",
+    "channel", "salvage",
 ];
 
 fn allowed() -> BTreeSet<(&'static str, Outcome)> {
@@ -226,6 +230,126 @@ fn record_verbs_reach_every_byte() {
                 assert_eq!(got, possible, "{verb} {record} {index}");
             }
         }
+    }
+}
+
+/// Which of so many: the only one, the first, a middle one or the last.
+fn which(number: usize, count: usize) -> &'static str {
+    match number {
+        0 if count == 1 => "only",
+        0 => "first",
+        _ if number + 1 == count => "last",
+        _ => "middle",
+    }
+}
+
+/// How many of a group's Ctabs there are, and how many of them have a Cntt.
+fn shape(ctabs: usize, cntts: usize) -> &'static str {
+    match (ctabs, cntts) {
+        (0, _) => "no Ctab",
+        (_, 0) => "Ctabs, no Cntt",
+        _ if ctabs == cntts => "Ctabs, a Cntt each",
+        _ => "Ctabs, some Cntts",
+    }
+}
+
+/// What kind of name no group has.
+fn no_part(part: &[u8]) -> &'static str {
+    match part {
+        [] => "empty",
+        _ if part.contains(&b',') => "comma",
+        _ if part.iter().any(|&byte| byte < 0x20) => "byte below",
+        _ if part.iter().any(|&byte| byte > 0x7E) => "byte above",
+        _ if part.len() > 16 => "long",
+        _ => "no such name",
+    }
+}
+
+/// What kind of answer a lookup in an accepted body has.
+fn lookup_kind(verb: &str, words: &[&[u8]], answered: &[&str]) -> String {
+    let body = bytes(words[1]).unwrap();
+    let groups = groups(&body);
+    let asked = number(words[2]).unwrap_or(0) as usize;
+    let number_of = |word: usize| answered[word].parse::<usize>().unwrap();
+    let group = if verb == "part" { number_of(1) } else { asked };
+    if answered[0] == "refused" {
+        return match (answered[1], verb) {
+            ("15", "part") => no_part(&bytes(words[2]).unwrap()).to_string(),
+            ("15", _) => {
+                let ctabs = of_tag(&groups[asked].1, b"Ctab").len();
+                let channel = number(words[3]).unwrap();
+                let some = if ctabs == 0 { "no Ctab" } else { "other Ctabs" };
+                format!("15, {some}, {}", channel.clamp(15, 17))
+            }
+            _ if groups.is_empty() => "16, no group".to_string(),
+            _ => format!("16, past by {}", (asked - groups.len()).min(1)),
+        };
+    }
+    let children = &groups[group].1;
+    let (ctabs, cntts) = (
+        of_tag(children, b"Ctab").len(),
+        of_tag(children, b"Cntt").len(),
+    );
+    let own = match verb {
+        "part" => {
+            let part = bytes(words[2]).unwrap();
+            let names = names(children);
+            let number = names.iter().position(|&name| name == part).unwrap();
+            which(number, names.len())
+        }
+        "where" => shape(ctabs, cntts),
+        _ => which(number_of(1), ctabs),
+    };
+    format!("{} group, {own}", which(group, groups.len()))
+}
+
+/// The kinds of answer of a lookup: in the only, the first, a middle and the last group, each of
+/// these; and the refusals that come after the body's.
+fn lookup_kinds(verb: &str) -> BTreeSet<String> {
+    let shapes = [(0, 0), (1, 0), (2, 1), (1, 1)].map(|(ctabs, cntts)| shape(ctabs, cntts));
+    let four = ["only", "first", "middle", "last"];
+    let mut kinds = BTreeSet::new();
+    for group in four {
+        for own in if verb == "where" { shapes } else { four } {
+            kinds.insert(format!("{group} group, {own}"));
+        }
+    }
+    let no_parts = [
+        "empty",
+        "comma",
+        "byte below",
+        "byte above",
+        "long",
+        "no such name",
+    ];
+    let no_groups = ["16, no group", "16, past by 0", "16, past by 1"];
+    match verb {
+        "part" => kinds.extend(no_parts.map(str::to_string)),
+        _ => kinds.extend(no_groups.map(str::to_string)),
+    }
+    if verb == "channel" {
+        for channel in [15, 16, 17] {
+            kinds.insert(format!("15, no Ctab, {channel}"));
+            kinds.insert(format!("15, other Ctabs, {channel}"));
+        }
+    }
+    kinds
+}
+
+#[test]
+fn lookups_reach_every_kind() {
+    for verb in ["part", "where", "channel"] {
+        let mut reached = BTreeSet::new();
+        for line in Script::new(16, &[verb]).take(1_200) {
+            let told = answer(&line);
+            let told: Vec<&str> = told.split(' ').collect();
+            if told[0] == "ok" || (told[0] == "refused" && matches!(told[1], "15" | "16")) {
+                reached.insert(lookup_kind(verb, &tokens(&line).unwrap(), &told));
+            }
+        }
+        let wanted = lookup_kinds(verb);
+        let missing: Vec<_> = wanted.difference(&reached).collect();
+        assert!(missing.is_empty(), "{verb}: {missing:?}");
     }
 }
 

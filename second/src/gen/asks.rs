@@ -1,5 +1,5 @@
 //! The catalogue of the verbs body, group, voice and salvage, each with its own refusals 14, 15
-//! and 16 before the catalogue of bodies; and what plays and edit share with them.
+//! and 16 before the catalogue of bodies; and what plays, edit and the lookups share with them.
 
 use crate::body::read_body;
 use crate::gen::bodies::{great_bodies, longest_sound, Bodies};
@@ -88,7 +88,7 @@ pub fn body(dice: &mut Dice, bodies: &Bodies) -> Vec<Line> {
 }
 
 /// A group number that mostly is there.
-fn some_group(dice: &mut Dice, body: &[u8]) -> usize {
+pub fn some_group(dice: &mut Dice, body: &[u8]) -> usize {
     match read_body(body) {
         Ok(groups) if !groups.is_empty() => dice.below(groups.len()),
         _ => dice.below(3),
@@ -141,27 +141,32 @@ const VOICES: [&[u8; 8]; 10] = [
     b"CSEGCtab",
 ];
 
-pub fn voice(dice: &mut Dice, bodies: &Bodies) -> Vec<Line> {
-    let sample = sample(dice);
-    let mut lines = Vec::new();
-    for (number, channel) in [(0, 4), (0, 0), (0, 15), (0, 9), (1, 4), (2, 9), (2, 4)] {
-        lines.push(body_line("voice", &sample, &format!("{number} {channel}")));
-    }
-    for channel in NO_CHANNEL {
-        lines.push(body_line("voice", &sample, &format!("0 {channel}")));
+/// Lines of a verb that asks for a record by group and source channel, in the sample body and
+/// where there is no group.
+pub fn record_questions(verb: &str, sample: &[u8]) -> Vec<Line> {
+    let ask = |number: u64, channel: u8| body_line(verb, sample, &format!("{number} {channel}"));
+    let mut lines: Vec<Line> = [(0, 4), (0, 0), (0, 15), (0, 9), (1, 4), (2, 9), (2, 4)]
+        .map(|(number, channel)| ask(number, channel))
+        .into();
+    for number in [0, 1] {
+        lines.extend(NO_CHANNEL.map(|channel| ask(number, channel)));
     }
     for number in NO_GROUP {
-        for channel in [4, 7, 200] {
-            lines.push(body_line("voice", &sample, &format!("{number} {channel}")));
-        }
+        lines.extend([4, 7, 200].map(|channel| ask(number, channel)));
     }
+    let bare = ["- 0 0", "00 9 99", "00 4294967295 255"];
+    lines.extend(bare.map(|tokens| format!("{verb} {tokens}").into()));
+    lines
+}
+
+pub fn voice(dice: &mut Dice, bodies: &Bodies) -> Vec<Line> {
+    let mut lines = record_questions("voice", &sample(dice));
     for name in VOICES {
         let mut named = plain(2);
         named.bytes[1..9].copy_from_slice(name);
         let body = group_bytes(b"Main A", &[plain(6), named, plain(1)]);
         lines.push(body_line("voice", &body, "0 2"));
     }
-    lines.extend(["- 0 0", "00 9 99"].map(|tokens| format!("voice {tokens}").into()));
     lines.extend(over_great("voice", "0 0"));
     lines.extend(over_bodies(
         dice,

@@ -76,7 +76,7 @@ fn named(text: &str) -> Vec<u8> {
 }
 
 /// So many groups of one name each.
-fn many(count: usize) -> Vec<u8> {
+pub fn many(count: usize) -> Vec<u8> {
     (0..count)
         .flat_map(|number| named(&format!("Part {number}")))
         .collect()

@@ -11,7 +11,9 @@ fn tokens(verb: &str) -> Vec<String> {
     let words: Vec<&str> = match verb {
         "find" | "body" => vec![group],
         "group" => vec![group, "0", "3"],
-        "voice" => vec![group, "0", "4"],
+        "voice" | "channel" => vec![group, "0", "4"],
+        "part" => vec![group, "41"],
+        "where" => vec![group, "0"],
         "plays" => vec![group, "41", "0", "0"],
         "place" => vec![&record, "0", "60"],
         "write" => vec!["41", "1", "60", &record],
@@ -111,7 +113,7 @@ pub fn broken(verb: &str) -> Vec<Line> {
         };
         if word.contains(':') {
             records(word).into_iter().for_each(&mut with);
-        } else if number == 0 || (verb == "plays" && number == 1) {
+        } else if number == 0 || (matches!(verb, "plays" | "part") && number == 1) {
             BYTES.iter().for_each(|token| with(token.to_string()));
         } else {
             NUMBERS.iter().for_each(|token| with(token.to_string()));
@@ -155,7 +157,7 @@ fn records(sound: &str) -> Vec<String> {
 
 /// Lines of no verb; they are printed where no verb is named.
 pub fn verbless() -> Vec<Line> {
-    let lines: [&[u8]; 14] = [
+    let lines: [&[u8]; 17] = [
         b"",
         b" ",
         b"\t",
@@ -167,6 +169,9 @@ pub fn verbless() -> Vec<Line> {
         b"bodies -",
         b"list -",
         b"bod -",
+        b"parts - 41",
+        b"Where - 0",
+        b"channe - 0 0",
         b"\r",
         b"\xFF\xFE",
         b"\xC3\xA9 00",

@@ -8,10 +8,11 @@ use crate::gen::dice::Dice;
 use crate::gen::sound::plain;
 use crate::gen::spell::{body_line, spell, Line};
 use crate::record::Record;
+use crate::sdec::names;
 use crate::write::group_bytes;
 
 /// Part names that no group has.
-const NO_PART: [&[u8]; 14] = [
+pub const NO_PART: [&[u8]; 14] = [
     b"",
     b",",
     b"Main A,Main B",
@@ -104,15 +105,20 @@ fn masked(channel: u8, roots: u16, types: u64) -> Record {
     record
 }
 
-/// A part that mostly is there, and a chord.
-pub fn some_chord(dice: &mut Dice, body: &[u8]) -> String {
-    let mut part = b"Main A".to_vec();
+/// A part that mostly is there.
+pub fn some_part(dice: &mut Dice, body: &[u8]) -> Vec<u8> {
     if let Ok(groups) = read_body(body) {
         if !groups.is_empty() && dice.percent(90) {
             let text = groups[dice.below(groups.len())].text;
-            let names: Vec<&[u8]> = text.split(|&byte| byte == b',').collect();
-            part = dice.pick(&names).to_vec();
+            let names: Vec<&[u8]> = names(text).collect();
+            return dice.pick(&names).to_vec();
         }
     }
-    format!("{} {} {}", spell(&part), dice.below(12), dice.below(34))
+    b"Main A".to_vec()
+}
+
+/// A part that mostly is there, and a chord.
+pub fn some_chord(dice: &mut Dice, body: &[u8]) -> String {
+    let part = spell(&some_part(dice, body));
+    format!("{part} {} {}", dice.below(12), dice.below(34))
 }

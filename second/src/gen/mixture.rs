@@ -2,7 +2,7 @@
 //! catalogue at some spot, ones with bytes changed, and a few that break the grammar.
 
 use crate::body::read_body;
-use crate::gen::chords::some_chord;
+use crate::gen::chords::{some_chord, some_part};
 use crate::gen::dice::Dice;
 use crate::gen::draft::{body_bytes, Draft};
 use crate::gen::faults::{further, principal, Fault, GREAT_LENGTHS};
@@ -38,6 +38,9 @@ impl Mixture {
             "write" => self.write(),
             "edit" => self.edit(),
             "screen" => self.screen(),
+            "part" => self.part(),
+            "where" => self.place_of_group(),
+            "channel" => self.channel(),
             _ => self.salvage(),
         }
         .into_bytes();
@@ -241,10 +244,48 @@ impl Mixture {
     }
 
     fn voice(&mut self) -> String {
+        format!("voice {}", self.record_tokens())
+    }
+
+    fn channel(&mut self) -> String {
+        format!("channel {}", self.record_tokens())
+    }
+
+    /// A body, and a group and a source channel that mostly are there.
+    fn record_tokens(&mut self) -> String {
         let body = self.asked_body();
         let (number, channels) = self.some_group(&body);
         let channel = self.some_channel(&channels);
-        format!("voice {} {number} {channel}", self.spelled(&body))
+        format!("{} {number} {channel}", self.spelled(&body))
+    }
+
+    fn place_of_group(&mut self) -> String {
+        let body = self.asked_body();
+        let (number, _) = self.some_group(&body);
+        format!("where {} {number}", self.spelled(&body))
+    }
+
+    fn part(&mut self) -> String {
+        let body = self.asked_body();
+        let body_token = self.spelled(&body);
+        let part = if self.dice.percent(85) {
+            some_part(&mut self.dice, &body)
+        } else {
+            self.strange_part(&body)
+        };
+        format!("part {body_token} {}", self.spelled(&part))
+    }
+
+    /// A name that is hardly there: any, a whole text, or one of these with a change.
+    fn strange_part(&mut self, body: &[u8]) -> Vec<u8> {
+        let mut part = sound::name(&mut self.dice);
+        if let Some(group) = read_body(body).unwrap_or_default().last() {
+            part = self.dice.pick(&[&part, group.text]).to_vec();
+        }
+        if self.dice.percent(30) {
+            self.change(&mut part);
+        }
+        part
     }
 
     fn plays(&mut self) -> String {
@@ -253,13 +294,7 @@ impl Mixture {
         if self.dice.percent(85) {
             return format!("plays {body_token} {}", some_chord(&mut self.dice, &body));
         }
-        let mut part = sound::name(&mut self.dice);
-        if let Some(group) = read_body(&body).unwrap_or_default().last() {
-            part = self.dice.pick(&[&part, group.text]).to_vec();
-        }
-        if self.dice.percent(30) {
-            self.change(&mut part);
-        }
+        let part = self.strange_part(&body);
         let any = self.dice.byte();
         let root = self.dice.pick(&[any % 12, 11, 12, any]);
         let chord_type = self.dice.pick(&[any % 34, 33, 34, any]);

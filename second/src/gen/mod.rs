@@ -11,6 +11,7 @@ pub mod edits;
 pub mod families;
 pub mod faults;
 pub mod files;
+pub mod lookups;
 pub mod mixture;
 pub mod records;
 pub mod sound;
@@ -93,6 +94,9 @@ fn catalogues(dice: &mut Dice) -> Vec<(&'static str, Vec<Line>)> {
                 "write" => records::write(dice),
                 "edit" => edits::edit(dice, &bodies),
                 "screen" => records::screen(dice),
+                "part" => lookups::part(dice, &bodies),
+                "where" => lookups::place_of_group(dice, &bodies),
+                "channel" => lookups::channel(dice, &bodies),
                 _ => asks::salvage(dice, &bodies),
             };
             (verb, mixed(lines, broken::broken(verb)))
@@ -155,6 +159,9 @@ fn questions(body: &[u8]) -> Vec<(&'static str, String)> {
         ("voice", format!("{number} {channel}")),
         ("plays", format!("{part} 4 19")),
         ("edit", format!("{number} {channel} {new}")),
+        ("part", part),
+        ("where", number.to_string()),
+        ("channel", format!("{number} {channel}")),
     ]
 }
 

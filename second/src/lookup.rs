@@ -1,0 +1,68 @@
+//! Where the things of a body stand: a group by its number, a part by its name, a record by its
+//! source channel. Follows "After the body: 16 for numbers, 15"; "Groups are numbered from 0".
+
+use crate::body::{group_of_number, number_of_part, read_body};
+use crate::bytes::HEADER;
+use crate::group::Ctab;
+use crate::record::{CNTT_BYTES, CTAB_BYTES};
+use crate::refusal::{refuse, Answer};
+
+/// A run of chunks of one tag and one size: the place of the first one's tag and how many there
+/// are. Where there is none it is the place where it would stand.
+#[derive(Clone, Copy, Debug, PartialEq, Eq)]
+pub struct Run {
+    pub place: usize,
+    pub count: usize,
+}
+
+/// Where a group stands in its body, and where its text, its Ctabs and its Cntts do.
+#[derive(Clone, Copy, Debug, PartialEq, Eq)]
+pub struct Stand {
+    pub place: usize,
+    pub size: usize,
+    pub text: usize,
+    pub text_length: usize,
+    pub ctabs: Run,
+    pub cntts: Run,
+}
+
+/// The group of a number: one Sdec, then its Ctabs, then its Cntts, "with nothing between or
+/// after".
+pub fn find_group(body: &[u8], number: u32) -> Answer<Stand> {
+    let groups = read_body(body)?;
+    let group = group_of_number(&groups, number)?;
+    let has_cntt = |ctab: &&Ctab| ctab.record.second_table.is_some();
+    let cntts = group.ctabs.iter().filter(has_cntt).count();
+    let end = group.place + group.length;
+    let cntts_place = end - cntts * (HEADER + CNTT_BYTES);
+    let ctabs_place = cntts_place - group.ctabs.len() * (HEADER + CTAB_BYTES);
+    Ok(Stand {
+        place: group.place,
+        size: group.length,
+        text: ctabs_place - group.text.len(),
+        text_length: group.text.len(),
+        ctabs: Run {
+            place: ctabs_place,
+            count: group.ctabs.len(),
+        },
+        cntts: Run {
+            place: cntts_place,
+            count: cntts,
+        },
+    })
+}
+
+/// The number of the group that has a part.
+pub fn find_part(body: &[u8], part: &[u8]) -> Answer<usize> {
+    number_of_part(&read_body(body)?, part)
+}
+
+/// The number of a source channel's record in a group, and the place of its byte 0.
+pub fn find_channel(body: &[u8], group: u32, channel: u8) -> Answer<(usize, usize)> {
+    let groups = read_body(body)?;
+    let group = group_of_number(&groups, group)?;
+    match group.ctab_of(channel) {
+        Some(number) => Ok((number, group.ctabs[number].place)),
+        None => refuse(15, 0),
+    }
+}
