@@ -1,18 +1,21 @@
-// A line of a script is answered by the verb that it begins with. What the verbs do stands in `reads`, `lists`, `asks`, `alone`, `edits`,
-// `groups` and `writes`.
+// A line of a script is answered by the verb that it begins with. What the verbs do stands in `reads`, `lists`, `asks`, `finds`, `alone`,
+// `edits`, `groups` and `writes`.
 ghost use Rattle.script.specs.Printing.{Waits};
 use script::print::OUT;
 use script::print::put_bad;
 use tokens::ROOM;
 use words::BODY;
+use words::CHANNEL;
 use words::EDIT;
 use words::FIND;
 use words::GROUP;
+use words::PART;
 use words::PLACE;
 use words::PLAYS;
 use words::SALVAGE;
 use words::SCREEN;
 use words::VOICE;
+use words::WHERE;
 use words::WRITE;
 use words::verb_end;
 use words::verb_of;
@@ -56,6 +59,9 @@ pub fn answer(
         BODY => reads::body(line, at, room, out, used),
         VOICE => asks::voice(line, at, room, out, used),
         PLAYS => asks::plays(line, at, room, name, out, used),
+        PART => finds::part(line, at, room, name, out, used),
+        WHERE => finds::place(line, at, room, out, used),
+        CHANNEL => finds::channel(line, at, room, out, used),
         PLACE => alone::place(line, at, out, used),
         SALVAGE => lists::salvage(line, at, room, out, used),
         _ => answer_records(line, at, verb, room, out, used),

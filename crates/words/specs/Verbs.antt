@@ -11,14 +11,22 @@ use Rattle.digits.specs.Ends.{spaceAt}
 unfoldable pub verbEnd : List ℕ → ℕ
 verbEnd line = first (spaceAt line) 0 (length line)
 
--- "group", "write", "edit", "screen"
+-- "part", "where", "channel"
+abbrev pub findingVerbs : List (List ℕ)
+findingVerbs =
+    (0x70 ∷ 0x61 ∷ 0x72 ∷ 0x74 ∷ [])
+    ∷ (0x77 ∷ 0x68 ∷ 0x65 ∷ 0x72 ∷ 0x65 ∷ [])
+    ∷ (0x63 ∷ 0x68 ∷ 0x61 ∷ 0x6E ∷ 0x6E ∷ 0x65 ∷ 0x6C ∷ [])
+    ∷ []
+
+-- "group", "write", "edit", "screen" and those
 abbrev pub recordVerbs : List (List ℕ)
 recordVerbs =
     (0x67 ∷ 0x72 ∷ 0x6F ∷ 0x75 ∷ 0x70 ∷ [])
     ∷ (0x77 ∷ 0x72 ∷ 0x69 ∷ 0x74 ∷ 0x65 ∷ [])
     ∷ (0x65 ∷ 0x64 ∷ 0x69 ∷ 0x74 ∷ [])
     ∷ (0x73 ∷ 0x63 ∷ 0x72 ∷ 0x65 ∷ 0x65 ∷ 0x6E ∷ [])
-    ∷ []
+    ∷ findingVerbs
 
 -- "find", "body", "voice", "plays", "place", "salvage" and those: the verbs in the order of their numbers, from 1 on
 abbrev pub verbs : List (List ℕ)

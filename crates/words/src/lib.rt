@@ -5,7 +5,7 @@ ghost use mathlib.Core.Path.{_≡_};
 ghost use Prim.Native.Nat.{_≤_};
 ghost use lib.ListN.{length, take};
 ghost use Rattle.layout.specs.Lists.{same as sameList};
-ghost use Rattle.words.specs.Verbs.{verbEnd, recordVerbs, verbs, numberIn};
+ghost use Rattle.words.specs.Verbs.{verbEnd, findingVerbs, recordVerbs, verbs, numberIn};
 use check::same;
 
 // The place where the line's first token ends.
@@ -51,7 +51,30 @@ pub const EDIT: u8 = 9;
 
 pub const SCREEN: u8 = 10;
 
-// The number of the verb that ends at `at` where it reads, writes or changes records, or 0.
+pub const PART: u8 = 11;
+
+pub const WHERE: u8 = 12;
+
+pub const CHANNEL: u8 = 13;
+
+// The number of the verb that ends at `at` where it finds something in a body, or 0.
+fn finding_verb_of(line: &[u8], at: usize) -> u8
+    requires { ⌜ at ≤ length (now line) ⌝ }
+    ensures { λ r. ⌜ r ≡ numberIn (take at (now (line .entry))) 11 findingVerbs ⌝ }
+{
+    if is_verb(line, at, b"part") {
+        return PART;
+    }
+    if is_verb(line, at, b"where") {
+        return WHERE;
+    }
+    if is_verb(line, at, b"channel") {
+        return CHANNEL;
+    }
+    0
+}
+
+// The number of the verb that ends at `at` where it reads, writes or changes records, or is one of those, or 0.
 fn record_verb_of(line: &[u8], at: usize) -> u8
     requires { ⌜ at ≤ length (now line) ⌝ }
     ensures { λ r. ⌜ r ≡ numberIn (take at (now (line .entry))) 7 recordVerbs ⌝ }
@@ -68,7 +91,7 @@ fn record_verb_of(line: &[u8], at: usize) -> u8
     if is_verb(line, at, b"screen") {
         return SCREEN;
     }
-    0
+    finding_verb_of(line, at)
 }
 
 // The number of the verb that ends at `at`, or 0 where it is none.

@@ -1,6 +1,6 @@
 -- The verbs are tried in their order: each was another word, up to the one that it is.
 use mathlib.Core.Path.{sym, _∙_}
-use Rattle.words.proofs.Words.{is-word, other-word, no-word}
+use Rattle.words.proofs.Words.{is-word, other-word}
 use borrow.Author.Needs.{needs}
 use Rattle.words.proofs.record_verb_of.Statement.{statement}
 use Rattle.words.proofs.record_verb_of.Tie as tie
@@ -57,9 +57,12 @@ returns-4 c =
     ∙ other-word _ _ _ _ (sym (e3 .before .is-verb3 .ensures) ∙ e3 .if3 .left)
     ∙ is-word _ _ _ _ (sym (c .before .is-verb4 .ensures) ∙ c .if4 .taken))
 
+finding-verb-of-requires : tie.Need-finding-verb-of-requires
+finding-verb-of-requires c κs = search needs
+
 returns-5 : tie.Need-returns-5
 returns-5 c =
-    let e4 = c in
+    let e4 = c .before in
     let e3 = e4 .before .before .before in
     let e2 = e3 .before .before .before in
     let e1 = e2 .before .before .before in
@@ -67,7 +70,7 @@ returns-5 c =
     ∙ other-word _ _ _ _ (sym (e2 .before .is-verb2 .ensures) ∙ e2 .if2 .left)
     ∙ other-word _ _ _ _ (sym (e3 .before .is-verb3 .ensures) ∙ e3 .if3 .left)
     ∙ other-word _ _ _ _ (sym (e4 .before .is-verb4 .ensures) ∙ e4 .if4 .left)
-    ∙ no-word _ _)
+    ∙ sym (c .finding-verb-of .ensures))
 
 pub record-verb-of-spec : {M : Type 1} → statement M
 record-verb-of-spec =
@@ -85,4 +88,5 @@ record-verb-of-spec =
     slice-aggregate-is-verb-4
     is-verb-requires-4
     returns-4
+    finding-verb-of-requires
     returns-5)
