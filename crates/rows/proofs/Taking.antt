@@ -5,8 +5,7 @@ use mathlib.Core.Bool.{Bool}
 use mathlib.Core.List.{List, _++_}
 use native.Mathlib.Omega.{arith}
 use native.Mathlib.Numerals.{add-one}
-use lib.ListN.{length, getD, take, drop, length-append, length-drop}
-use lib.Seq.{length-take-le}
+use lib.ListN.{length, getD, take, drop, length-append}
 use Rattle.layout.specs.Edit.{replaced}
 use Rattle.layout.specs.Records.{blank}
 use Rattle.layout.specs.declared.record.Record.{Record}
@@ -29,9 +28,6 @@ record-is flat i r h e = e ∙ sym (getD-rows (flatRecord flat) blank (lentRows 
 -- row number i is what is lent
 pub row-there : (flat : List ℕ) (i : ℕ) → take (28 * i + 28 - 28 * i) (drop (28 * i) flat) ≡ take 28 (drop (28 * i) flat)
 row-there flat i = let z : 28 * i + 28 - 28 * i ≡ 28 = omega arith in rw z
-
-pub row-length : (flat : List ℕ) (i : ℕ) → i < lentRows (length flat) → length (take (28 * i + 28 - 28 * i) (drop (28 * i) flat)) ≡ 28
-row-length flat i h = ap length (row-there flat i) ∙ length-take-le 28 (drop (28 * i) flat) (omega (arith, h, length-drop (28 * i) flat))
 
 -- .. and record number i stands in it
 stands : (flat : List ℕ) (i : ℕ) (row : List ℕ) → row ≡ take 28 (drop (28 * i) flat) → recordIn row ≡ flatRecord flat i

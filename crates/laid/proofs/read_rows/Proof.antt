@@ -51,7 +51,7 @@ part-put-row-end : tie.Need-part-put-row-end Inv-loop μ-loop
 part-put-row-end c = search needs
 
 record-at-requires : tie.Need-record-at-requires Inv-loop μ-loop
-record-at-requires c κs = planned-within _ _ _ _ (c .before .before .before .plan-records .ensures) _ (c .before .loop-test .taken)
+record-at-requires c κs = omega (arith, planned-within _ _ _ _ (c .before .before .before .plan-records .ensures) _ (c .before .loop-test .taken))
 
 put-row-requires : tie.Need-put-row-requires Inv-loop μ-loop
 put-row-requires c κs =

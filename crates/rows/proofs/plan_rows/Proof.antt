@@ -1,7 +1,7 @@
 -- After i turns x is what the first i records come to; i goes up to their number.
 use Prim.Native.Nat.{_-_}
 use native.Mathlib.Omega.{arith}
-use Rattle.rows.proofs.Taking.{Looking, looking-start, looking-lent, looking-long, looking-next, looking-end, row-there, row-length}
+use Rattle.rows.proofs.Taking.{Looking, looking-start, looking-lent, looking-long, looking-next, looking-end, row-there}
 use borrow.Author.Needs.{needs}
 use Rattle.rows.proofs.plan_rows.Statement.{statement}
 use Rattle.rows.proofs.plan_rows.Tie as tie
@@ -41,7 +41,7 @@ look-at-row-requires c κs =
     let t = c .before .before in
     let inv = t .loop .inv in
     let l = looking-lent _ _ _ _ _ _ inv in
-    (row-length (t .before .before .before .before .before .args .flat .now) (t .loop .i) (omega (arith, l)), (omega (arith, l), looking-long _ _ _ _ _ _ inv))
+    (search needs, (omega (arith, l), looking-long _ _ _ _ _ _ inv))
 
 add-i : tie.Need-add-i Inv-loop μ-loop
 add-i c = search needs

@@ -1,5 +1,6 @@
 -- The plan, the group's start, the Ctabs and the Cntts, each in the room that the plan says.
 use mathlib.Core.Path.{_∙_}
+use native.Mathlib.Omega.{arith}
 use Rattle.rows.proofs.Steps.{fits, lent, ctabs-fit, cntts-fit, all-written}
 use borrow.Author.Needs.{needs}
 use Rattle.rows.proofs.write_rows.Statement.{statement}
@@ -31,7 +32,11 @@ put-chunks-requires-2 c κs =
     let a = p .before .before .before .before .args in
     let e = p .plan-rows .ensures in (
       lent (a .text .now) (a .flat .now) (a .out .now) (a .count) _ e,
-      cntts-fit (a .text .now) (a .flat .now) (a .out .now) (a .count) _ e (s .put-start .last .0) _ (s .put-start .ensures .0) (s .put-start .ensures .1) (q .put-chunks .last .1 .1 .0) _ (q .put-chunks .ensures .0) (q .put-chunks .kept .1 .1 .0 ∙ s .put-start .kept .0),
+      omega (
+        arith,
+        q .put-chunks .ensures .0,
+        cntts-fit (a .text .now) (a .flat .now) (a .out .now) (a .count) _ e (s .put-start .last .0) _ (s .put-start .ensures .0) (s .put-start .ensures .1) (q .put-chunks .last .1 .1 .0) _ (q .put-chunks .ensures .0) (q .put-chunks .kept .1 .1 .0 ∙ s .put-start .kept .0),
+      ),
     )
 
 measured-requires : tie.Need-measured-requires
