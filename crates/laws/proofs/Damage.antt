@@ -9,8 +9,8 @@ use Rattle.layout.specs.Lists.{All}
 use Rattle.salvage.proofs.Cseg.{Apart, opens-first, opens-apart, apart-right}
 use Rattle.salvage.proofs.Parts.{parts-nil, parts-seam, parts-group}
 use Rattle.laws.specs.Salvage.{GroupsBody, NoneCompleted, groupsFrom, moved, movedByChange}
-use Rattle.laws.proofs.Elements.{all-split}
-use Rattle.laws.proofs.Joined.{own, joined-groups, parts-joined}
+use Rattle.layout.proofs.Elements.{all-split}
+use Rattle.salvage.proofs.Joined.{own, joined-groups, parts-joined}
 use Rattle.laws.proofs.Places.{entries-append, entries-groups, entries-moved, entries-changed}
 use Rattle.laws.proofs.Starts.{Lone, lone-first, groups-open, body-groups, none-apart}
 

@@ -18,8 +18,8 @@ use Rattle.salvage.proofs.Cut.{front-is-free, pieces-are}
 use Rattle.salvage.proofs.Verdicts.{size-some, size-within, sound-cseg, size-own, sound-own}
 use Rattle.salvage.proofs.Numbered.{refusal-some}
 use Rattle.laws.specs.Salvage.{Covers, bytesOf, ReadsAsOne, SoundGroup}
-use Rattle.laws.proofs.Elements.{all-append, all-flatMap, all-so}
-use Rattle.laws.proofs.Joined.{parts-joined}
+use Rattle.layout.proofs.Elements.{all-append, all-flatMap, all-so}
+use Rattle.salvage.proofs.Joined.{parts-joined}
 use Rattle.laws.proofs.Places.{entries-cover, entries-bytes, entries-all}
 use Rattle.laws.proofs.AsBody.{reads-exactly}
 

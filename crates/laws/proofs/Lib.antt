@@ -1,5 +1,3 @@
-pub mod Elements
-pub mod Joined
 pub mod Places
 pub mod AsBody
 pub mod Entries

@@ -9,7 +9,7 @@ use lib.Seq.{drop-append-seam, take-append-seam}
 use Rattle.layout.specs.Salvage.{Part, Entry, entriesFrom}
 use Rattle.layout.specs.Lists.{All}
 use Rattle.laws.specs.Salvage.{Covers, bytesOf, groupsFrom, moved, movedByChange}
-use Rattle.laws.proofs.Joined.{joined, own}
+use Rattle.salvage.proofs.Joined.{joined, own}
 
 pub entries-append : (i : ℕ) (ps qs : List Part) → entriesFrom i (ps ++ qs) ≡ entriesFrom i ps ++ entriesFrom (i + length (joined ps)) qs
 unfolding entriesFrom flatten

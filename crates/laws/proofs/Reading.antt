@@ -11,7 +11,7 @@ use Rattle.layout.specs.declared.turn.Run.the-variants.{Stopped, Ended}
 use Rattle.layout.specs.declared.turn.Judged.the-variants.{Sound}
 use Rattle.layout.proofs.Accepted.{body-accepted, body-place}
 use Rattle.salvage.proofs.Verdicts.{sound-own}
-use Rattle.style.proofs.PlaceLaws.{casm-place, casm-within}
+use Rattle.style.proofs.PlaceLaws.{casm-refuses, casm-stands}
 
 -- a sound group is the same group by its own bytes, whatever follows them
 pub sound-by-its-own-bytes : (p x : List ℕ) (text ctabs cntts : ℕ) → groupAt p ≡ Sound text ctabs cntts → groupAt (take (groupSize p) p ++ x) ≡ Sound text ctabs cntts
@@ -31,8 +31,8 @@ body-refused-within s number place e = body-place s number place e
 
 -- a refused file is refused at one of its bytes, or at its length
 pub file-refused-within : (s : List ℕ) (number place : ℕ) → casmFound s ≡ refused number place → place ≤ length s
-file-refused-within s number place e = casm-place s number place e
+file-refused-within s number place e = casm-refuses s number place e .1 .1
 
 -- a CASM section that is found ends within the file, its header of eight bytes and its body
 pub found-within : (s : List ℕ) (x : Span) → casmFound s ≡ granted x → x .start + 8 + x .size ≤ length s
-found-within s x e = casm-within s x e
+found-within s x e = casm-stands s x e .0

@@ -16,7 +16,7 @@ use Rattle.layout.specs.Lists.{All}
 use Rattle.salvage.proofs.Cseg.{Apart, Opens, no-true, not-so, no-cseg, cseg-is, cseg-more-at, opens-first, opens-apart}
 use Rattle.salvage.proofs.Verdicts.{sound-cseg}
 use Rattle.laws.specs.Salvage.{SoundGroup, StartsAt, GroupsBody, NoneCompleted}
-use Rattle.laws.proofs.Elements.{all-so}
+use Rattle.layout.proofs.Elements.{all-so}
 use Rattle.laws.proofs.AsBody.{group-some}
 
 -- a sound group with CSEG nowhere but at its start

@@ -15,8 +15,8 @@ use Rattle.salvage.proofs.Cseg.{no-true}
 use Rattle.salvage.proofs.Cut.{front-is-free, pieces-are}
 use Rattle.salvage.proofs.Verdicts.{size-some, sound-cseg, sound-own}
 use Rattle.laws.specs.Salvage.{bytesOf}
-use Rattle.laws.proofs.Elements.{all-append, all-flatMap, all-so}
-use Rattle.laws.proofs.Joined.{parts-joined}
+use Rattle.layout.proofs.Elements.{all-append, all-flatMap, all-so}
+use Rattle.salvage.proofs.Joined.{parts-joined}
 use Rattle.laws.proofs.Places.{entries-all}
 use Rattle.laws.proofs.Entries.{dropped-free}
 use Rattle.refusals.specs.Body.{GroupRefused}
