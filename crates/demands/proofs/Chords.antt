@@ -6,7 +6,7 @@ use lib.Seq.{getD-take, getD-drop}
 use Rattle.layout.specs.Lists.{All}
 use Rattle.layout.specs.Plays.{chordTypes}
 use Rattle.laws.proofs.Bits.{chord-bit}
-use Rattle.laws.proofs.Elements.{all-so}
+use Rattle.layout.proofs.Elements.{all-so}
 use Rattle.demands.specs.Chords.{ByteOfChords, chordBytes, TypesByTheirBits, MaskByItsBytes}
 
 -- the chord types of a byte are those that stand in the table from its lowest bit on

@@ -11,8 +11,9 @@ use Rattle.layout.specs.Sdec.{firstName, laterNames, names, soundText, shares}
 use Rattle.layout.specs.Group.{headFault, ctabsOver, ctabAt, ctabTurn, cnttAt, cnttTurn, cnttsOf, ctabsOf, afterCntts, afterCtabs, contents, payload, groupSize, behindHeader, groupAt}
 use Rattle.layout.specs.Body.{groupPlace, textAt, sharing, afterContents, groupTurnAt, groupTurn, bodyRun, bodyRead}
 use Rattle.layout.specs.Asked.{ofGroup, textOf}
-use Rattle.layout.specs.Style.{noStyle, sectionPlace, sectionTagged, sectionTurnAt, sectionTurn, sectionsRun, casmAmong, casmFound, located}
-use Rattle.layout.specs.Salvage.{cseg, front, pieces, rest, listed, judged, parts, entriesFrom, salvage}
+use Rattle.layout.specs.Style.{noStyle, sectionPlace, sectionTagged, sectionTurnAt, sectionTurn, sectionsRun, casmAmong, casmFound}
+use Rattle.layout.specs.Salvage.{cseg, front, pieces, rest, listed, judged, parts, entriesFrom, salvage, entryNumbers, listNumbers, salvaged}
+use Rattle.layout.specs.Listing.{numeral, places, decimal, spaced, refusedLine, casmLine, entryLine, endLine, textListed, bodyIn, textFound, listText}
 use Rattle.layout.specs.Plays.{bit, rootMask, chordMask, playsUnder}
 use Rattle.layout.specs.Place.{becomes, effective, bypass, shift, octaves, folded, heard, notePlaced, placed}
 use Rattle.demands.specs.Examples.{Hold, examples, listExample}
@@ -22,5 +23,5 @@ unfolding same has distinct every any firstOf first runOf run number word four t
 marked = (refl, (refl, (refl, (refl, (refl, (refl, (refl, (refl, (refl, (refl, (refl, (refl, (refl, (refl, (refl, (refl, (refl, (refl, (refl, (refl, (refl, (refl, (refl, (refl, (refl, (refl, (refl, (refl, (refl, (refl, (refl, (refl, (refl, tt)))))))))))))))))))))))))))))))))
 
 pub listed-file : Hold listExample
-unfolding same has distinct every any firstOf first runOf run number word four tagAt tagged numberOf placeOf valueOr afterRun partOf counted inside ranges outOf firstOut bytesOf badSecond badByte firstBad firstName laterNames names soundText shares headFault ctabsOver ctabAt ctabTurn cnttAt cnttTurn cnttsOf ctabsOf afterCntts afterCtabs contents payload groupSize behindHeader groupAt groupPlace textAt sharing afterContents groupTurnAt groupTurn bodyRun bodyRead ofGroup textOf cseg front pieces rest listed judged parts entriesFrom salvage bit rootMask chordMask playsUnder becomes effective bypass shift octaves folded heard notePlaced placed flatMap chunk noStyle sectionPlace sectionTagged sectionTurnAt sectionTurn sectionsRun casmAmong casmFound located
-listed-file = (refl, (refl, tt))
+unfolding same has distinct every any firstOf first runOf run number word four tagAt tagged valueOr afterRun inside ranges outOf firstOut firstName laterNames names soundText headFault ctabsOver ctabAt ctabTurn cnttAt cnttTurn cnttsOf ctabsOf afterCntts afterCtabs contents payload groupSize behindHeader groupAt cseg front pieces rest listed judged parts entriesFrom salvage entryNumbers listNumbers salvaged flatMap chunk noStyle sectionPlace sectionTagged sectionTurnAt sectionTurn sectionsRun casmAmong casmFound numeral places decimal spaced refusedLine casmLine entryLine endLine textListed bodyIn textFound listText
+listed-file = (refl, tt)

@@ -1,18 +1,18 @@
--- The fifteen marked examples of document 01: one table, and one theorem that every row of it holds of the definitions, by computation.
+-- The fifteen marked examples of document 01 and its example for `list`: a table each, and a theorem that every row of it holds of the definitions, by computation.
 use Prim.Native.Nat.{ℕ}
 use mathlib.Core.Path.{_≡_}
 use mathlib.Core.Bool.{Bool, true, false}
 use mathlib.Core.List.{List, [], _∷_, _++_}
-use lib.ListN.{take, drop, set, replicate}
+use lib.ListN.{take, set, replicate}
 use Rattle.layout.specs.Bytes.{MThd, MTrk, CASM, CSEG, four, chunk}
 use Rattle.layout.specs.declared.record.Record.{Record}
 use Rattle.layout.specs.declared.record.SecondTable.the-variants.{Absent}
 use Rattle.layout.specs.declared.answer.Counted.{Counted}
 use Rattle.layout.specs.declared.answer.Placed.{Placed}
-use Rattle.layout.specs.declared.answer.Located.{Located}
 use Rattle.layout.specs.Salvage.{Entry, salvage}
+use Rattle.layout.specs.Listing.{listText}
 use Rattle.layout.specs.Plays.{playsUnder}
-use Rattle.layout.specs.Promises.{CasmFound, BodyRead, TextShown, NotePlaced}
+use Rattle.layout.specs.Promises.{BodyRead, TextShown, NotePlaced}
 
 -- "M is the 22 bytes .."
 abbrev pub M : List ℕ
@@ -64,8 +64,8 @@ pub data Row : Type 0 where
   plays : List ℕ → ℕ → Bool → Row
   -- a note placed by a record under a chord root
   places : Record → ℕ → ℕ → Placed → Row
-  -- a file's CASM section
-  finds : List ℕ → Located → Row
+  -- the text that `list` prints of a file
+  prints : List ℕ → List ℕ → Row
 
 abbrev pub Holds : Row → Type 0
 Holds (reads body answer) = BodyRead body answer
@@ -73,7 +73,7 @@ Holds (shows body group part) = TextShown body group part
 Holds (lists body entries) = salvage body ≡ entries
 Holds (plays mask root answer) = playsUnder root 0 (sample mask 0 0 127) ≡ answer
 Holds (places r root note answer) = NotePlaced r root note answer
-Holds (finds file answer) = CasmFound file answer
+Holds (prints file text) = listText file ≡ text
 
 -- every row holds
 abbrev pub Hold : List Row → Type 0
@@ -96,9 +96,6 @@ gives n = record { number = 0; place = 0; silent = false; note = n }
 
 abbrev pub silent : Placed
 silent = record { number = 0; place = 0; silent = true; note = 0 }
-
-abbrev pub section : ℕ → ℕ → Located
-section tag length = record { number = 0; place = 0; tag = tag; length = length }
 
 -- ---- the table; where an example names a value, the chord root is 0, so that the value is the note
 
@@ -161,5 +158,17 @@ file =
     chunk MThd (0x00 ∷ 0x00 ∷ 0x00 ∷ 0x01 ∷ 0x00 ∷ 0x60 ∷ [])
     ++ (chunk MTrk (0x00 ∷ 0xFF ∷ 0x2F ∷ 0x00 ∷ []) ++ chunk CASM (M ++ 0x00 ∷ []))
 
+-- what it prints:
+-- casm 26 23
+-- 0 22 0
+-- 22 1 6
+-- end 2
+abbrev pub fourLines : List ℕ
+fourLines =
+    (0x63 ∷ 0x61 ∷ 0x73 ∷ 0x6D ∷ 0x20 ∷ 0x32 ∷ 0x36 ∷ 0x20 ∷ 0x32 ∷ 0x33 ∷ 0x0A ∷ [])
+    ++ ((0x30 ∷ 0x20 ∷ 0x32 ∷ 0x32 ∷ 0x20 ∷ 0x30 ∷ 0x0A ∷ [])
+    ++ ((0x32 ∷ 0x32 ∷ 0x20 ∷ 0x31 ∷ 0x20 ∷ 0x36 ∷ 0x0A ∷ [])
+    ++ (0x65 ∷ 0x6E ∷ 0x64 ∷ 0x20 ∷ 0x32 ∷ 0x0A ∷ [])))
+
 abbrev pub listExample : List Row
-listExample = finds file (section 26 23) ∷ lists (drop 34 file) (entry 0 22 0 ∷ entry 22 1 6 ∷ []) ∷ []
+listExample = prints file fourLines ∷ []

@@ -1,4 +1,4 @@
-// The lent list of the salvage call, three numbers an entry (place, length, kind), and printing it: for the programs `list` and `calls`.
+// The lent list of the salvage call, three numbers an entry (place, length, kind), and printing it: for the program `calls`.
 ghost use mathlib.Core.Path.{_≡_};
 ghost use Prim.Native.Nat.{_≤_, _<_};
 ghost use mathlib.Core.List.{_++_};
@@ -48,42 +48,28 @@ pub fn is_kept(list: &[usize; LIST], from: usize, n: usize) -> bool
     true
 }
 
-// Number k of the list. Before an entry's first number stands `start`, before the others `between`.
-fn put_field(
-    out: &mut [u8; OUT],
-    used: usize,
-    list: &[usize; LIST],
-    k: usize,
-    start: u8,
-    between: u8,
-) -> usize
+// Number k of the list. Before an entry's first number stands a space, before the others a comma.
+fn put_field(out: &mut [u8; OUT], used: usize, list: &[usize; LIST], k: usize) -> usize
     requires { ⌜ (Waits used) × (k < 24576) ⌝ }
     ensures { λ r. ⌜ Waits r ⌝ }
 {
     if k % 3 == 0 {
-        let started = put(out, used, start);
+        let started = put(out, used, b' ');
         return put_digits(out, started, list[k]);
     }
-    let parted = put(out, used, between);
+    let parted = put(out, used, b',');
     put_digits(out, parted, list[k])
 }
 
 // The first `count` entries.
-pub fn put_entries(
-    out: &mut [u8; OUT],
-    used: usize,
-    list: &[usize; LIST],
-    count: usize,
-    start: u8,
-    between: u8,
-) -> usize
+pub fn put_entries(out: &mut [u8; OUT], used: usize, list: &[usize; LIST], count: usize) -> usize
     requires { ⌜ Waits used ⌝ }
     ensures { λ r. ⌜ Waits r ⌝ }
 {
     let mut after = used;
     let mut k: usize = 0;
     while k < LIST && k / 3 < count {
-        after = put_field(out, after, list, k, start, between);
+        after = put_field(out, after, list, k);
         k += 1;
     }
     after

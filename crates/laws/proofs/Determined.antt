@@ -1,11 +1,13 @@
--- No two results satisfy one promise: a theorem for each call of the face, over the very name that its contract cites.
+-- No two results satisfy one promise: a theorem for each call of the face, and for the text of `list`, over the very name that its contract cites.
 use Prim.Native.Nat.{ℕ}
-use mathlib.Core.Path.{_≡_, sym, _∙_}
-use mathlib.Core.List.{List}
+use mathlib.Core.Path.{_≡_, sym, ap, _∙_}
+use mathlib.Core.List.{List, _++_}
+use lib.ListN.{drop}
 use Rattle.layout.specs.declared.record.Record.{Record}
 use Rattle.layout.specs.declared.record.SecondTable.{SecondTable}
 use Rattle.layout.specs.Promises.{CasmFound, SectionShown, BodyRead, GroupFound, PartFound, ChannelFound, TextShown, RecordsRead, VoiceShown, VoiceFound}
 use Rattle.layout.specs.Promises.{PlaysTold, NotePlaced, GroupWritten, RecordEdited, FieldSet, FieldSetInPlace, Salvaged, RecordMade, BytesTold}
+use Rattle.layout.specs.Listing.{listText, FileListed}
 use Rattle.laws.specs.Determined.{Determines, DeterminesBoth}
 
 -- a promise that is an equation
@@ -72,3 +74,6 @@ field-set-in-place before index value x y u v p q = (p .answer ∙ sym (q .answe
 
 pub salvaged : (body before : List ℕ) → DeterminesBoth (Salvaged body before)
 salvaged body before x y u v p q = (p .answer ∙ sym (q .answer), p .list ∙ sym (q .list))
+
+pub file-listed : (file before : List ℕ) → DeterminesBoth (FileListed file before)
+file-listed file before x y u v p q = let m = p .measure ∙ sym (q .measure) in (m, p .text ∙ (ap (λ (k : ℕ). listText file ++ drop k before) m ∙ sym (q .text)))

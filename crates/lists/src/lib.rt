@@ -47,7 +47,7 @@ fn put_listed(
     }
     let accepted = put_ok(out, used);
     let counted = put_number(out, accepted, listed.count);
-    let told = put_entries(out, counted, list, listed.count, b' ', b',');
+    let told = put_entries(out, counted, list, listed.count);
     if entries < listed.count {
         return put_kept(out, told, false);
     }

@@ -6,10 +6,10 @@ use Rattle.entries.proofs.put_entries.Statement.{statement}
 use Rattle.entries.proofs.put_entries.Tie as tie
 
 abbrev Inv-loop : tie.InvT-loop
-Inv-loop out₀ used list count start between after₀ k₀ out after k = Waits after
+Inv-loop out₀ used list count after₀ k₀ out after k = Waits after
 
 abbrev μ-loop : tie.MeasureT-loop
-μ-loop out₀ used list count start between after₀ k₀ out after k = 24576 - k
+μ-loop out₀ used list count after₀ k₀ out after k = 24576 - k
 
 loop-holds : tie.Need-loop-holds Inv-loop μ-loop
 loop-holds c = search needs
