@@ -10,9 +10,9 @@ use Rattle.layout.specs.Salvage.{Entry, entryNumbers, listNumbers}
 use Rattle.layout.specs.Listing.{entryLine}
 use Rattle.layout.proofs.Lists.{rows-last, flatMap-last}
 use Rattle.layout.proofs.Replaced.{replaced-none, replaced-length}
-use Rattle.listing.specs.Puts.{Put}
+use Rattle.spell.specs.Puts.{Put}
 use Rattle.listing.specs.Held.{entryAt, entriesIn}
-use Rattle.listing.proofs.Putting.{two-put, put-same}
+use Rattle.spell.proofs.Putting.{two-put, put-same}
 
 -- ---- the entries that were filled in
 

@@ -7,7 +7,7 @@ use Rattle.layout.specs.Lists.{All}
 use Rattle.layout.specs.Salvage.{Entry, salvage}
 use Rattle.layout.specs.Listing.{decimal, spaced, newline, entryLine}
 use Rattle.salvage.proofs.Bounds.{Bounded, salvage-bounded, room-for-any-body}
-use Rattle.listing.proofs.Decimals.{decimal-most}
+use Rattle.spell.proofs.Decimals.{decimal-most}
 
 spaced-most : (n k : ℕ) → 1 ≤ k → n < 10 ^ k → length (spaced n) ≤ k + 1
 unfolding spaced

@@ -18,7 +18,7 @@ use Rattle.io.specs.Counts.{Counts}
 use Rattle.style.proofs.PlaceLaws.{Standing, casm-refuses, casm-stands}
 use Rattle.salvage.proofs.Room.{numbers-length}
 use Rattle.salvage.proofs.Bounds.{room-for-any-body}
-use Rattle.listing.specs.Puts.{Put}
+use Rattle.spell.specs.Puts.{Put}
 use Rattle.listing.specs.Held.{entriesIn}
 use Rattle.listing.proofs.Entries.{holds-what-was-listed}
 use Rattle.listing.proofs.Measures.{lines-most}

@@ -1,7 +1,4 @@
 // What the program `list` prints of a file (document 01, "Marked examples": the program `list`), in a lent buffer.
-mod lines;
-mod put;
-
 ghost use mathlib.Core.List.{flatMap};
 ghost use mathlib.Core.Path.{_≡_};
 ghost use Prim.Native.Nat.{_+_, _*_, _≤_};
@@ -9,12 +6,12 @@ ghost use lib.ListN.{length};
 ghost use Rattle.layout.specs.Answers.{granted};
 ghost use Rattle.layout.specs.Salvage.{salvage};
 ghost use Rattle.layout.specs.Listing.{entryLine, textListed, FileListed};
-ghost use Rattle.listing.specs.Puts.{Put};
+ghost use Rattle.spell.specs.Puts.{Put};
 ghost use Rattle.listing.specs.Held.{entriesIn};
-use lines::put_casm;
-use lines::put_end;
-use lines::put_entry;
-use lines::put_refused;
+use spell::lines::put_casm;
+use spell::lines::put_end;
+use spell::lines::put_entry;
+use spell::lines::put_refused;
 
 // Room for the text of any file.
 pub const TEXT: usize = 131072;

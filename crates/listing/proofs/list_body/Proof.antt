@@ -3,7 +3,7 @@ use Prim.Native.Nat.{ℕ}
 use lib.ListN.{length-replicate}
 use native.Mathlib.Omega.{arith}
 use Rattle.layout.specs.Listing.{casmLine, endLine}
-use Rattle.listing.proofs.Putting.{three-put, put-same}
+use Rattle.spell.proofs.Putting.{three-put, put-same}
 use Rattle.listing.proofs.Texts.{all-listed, told-most, text-told}
 use borrow.Author.Needs.{needs}
 use Rattle.listing.proofs.list_body.Statement.{statement}

@@ -1,10 +1,10 @@
 -- Four parts: the place, the length, the kind, and the line's end.
 use native.Mathlib.Omega.{arith}
 use Rattle.layout.specs.Listing.{decimal, spaced, newline, entryLine}
-use Rattle.listing.proofs.Putting.{four-put}
+use Rattle.spell.proofs.Putting.{four-put}
 use borrow.Author.Needs.{needs}
-use Rattle.listing.proofs.lines.put_entry.Statement.{statement}
-use Rattle.listing.proofs.lines.put_entry.Tie as tie
+use Rattle.spell.proofs.lines.put_entry.Statement.{statement}
+use Rattle.spell.proofs.lines.put_entry.Tie as tie
 
 put-number-requires : tie.Need-put-number-requires
 put-number-requires c κs = search needs

@@ -2,11 +2,11 @@
 use mathlib.Core.Path.{ap}
 use native.Mathlib.Omega.{arith}
 use lib.ListN.{length}
-use Rattle.listing.proofs.Decimals.{decimal-made, decimal-most}
-use Rattle.listing.proofs.Putting.{put-same}
+use Rattle.spell.proofs.Decimals.{decimal-made, decimal-most}
+use Rattle.spell.proofs.Putting.{put-same}
 use borrow.Author.Needs.{needs}
-use Rattle.listing.proofs.put.put_number.Statement.{statement}
-use Rattle.listing.proofs.put.put_number.Tie as tie
+use Rattle.spell.proofs.put.put_number.Statement.{statement}
+use Rattle.spell.proofs.put.put_number.Tie as tie
 
 decimal-requires : tie.Need-decimal-requires
 decimal-requires c κs = search needs

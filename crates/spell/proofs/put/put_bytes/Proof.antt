@@ -2,10 +2,10 @@
 use Prim.Native.Nat.{_-_}
 use lib.ListN.{length}
 use native.Mathlib.Omega.{arith}
-use Rattle.listing.proofs.Putting.{Stored, stored-start, stored-length, stored-next, stored-end}
+use Rattle.spell.proofs.Putting.{Stored, stored-start, stored-length, stored-next, stored-end}
 use borrow.Author.Needs.{needs}
-use Rattle.listing.proofs.put.put_bytes.Statement.{statement}
-use Rattle.listing.proofs.put.put_bytes.Tie as tie
+use Rattle.spell.proofs.put.put_bytes.Statement.{statement}
+use Rattle.spell.proofs.put.put_bytes.Tie as tie
 
 abbrev Inv-loop : tie.InvT-loop
 Inv-loop out₀ at b i₀ out i = Stored out₀ at b out i

@@ -2,7 +2,7 @@
 ghost use Prim.Native.Nat.{_+_, _≤_};
 ghost use lib.ListN.{length};
 ghost use Rattle.layout.specs.Listing.{decimal, spaced};
-ghost use Rattle.listing.specs.Puts.{Put};
+ghost use Rattle.spell.specs.Puts.{Put};
 
 // These bytes.
 pub fn put_bytes(out: &mut [u8], at: usize, b: &[u8]) -> usize

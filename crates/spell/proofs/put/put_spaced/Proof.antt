@@ -2,10 +2,10 @@
 use mathlib.Core.List.{[], _∷_}
 use native.Mathlib.Omega.{arith}
 use Rattle.layout.specs.Listing.{decimal, spaced}
-use Rattle.listing.proofs.Putting.{two-put}
+use Rattle.spell.proofs.Putting.{two-put}
 use borrow.Author.Needs.{needs}
-use Rattle.listing.proofs.put.put_spaced.Statement.{statement}
-use Rattle.listing.proofs.put.put_spaced.Tie as tie
+use Rattle.spell.proofs.put.put_spaced.Statement.{statement}
+use Rattle.spell.proofs.put.put_spaced.Tie as tie
 
 slice-aggregate-put-bytes : tie.Need-slice-aggregate-put-bytes
 slice-aggregate-put-bytes c = search needs

@@ -8,7 +8,7 @@ use lib.ListN.{length, getD, set, take, drop, length-append}
 use lib.Seq.{paste, paste-zero, paste-suc, length-paste, take-all}
 use Rattle.layout.specs.Edit.{replaced}
 use Rattle.layout.proofs.Replaced.{replaced-twice}
-use Rattle.listing.specs.Puts.{Put}
+use Rattle.spell.specs.Puts.{Put}
 
 -- the same bytes
 pub put-same : (s : List ℕ) (at : ℕ) (b c : List ℕ) (r : ℕ) (after : List ℕ) → b ≡ c → Put s at b r after → Put s at c r after

@@ -2,7 +2,7 @@
 ghost use Prim.Native.Nat.{_+_, _≤_};
 ghost use lib.ListN.{length};
 ghost use Rattle.layout.specs.Listing.{refusedLine, casmLine, entryLine, endLine};
-ghost use Rattle.listing.specs.Puts.{Put};
+ghost use Rattle.spell.specs.Puts.{Put};
 use crate::put::put_bytes;
 use crate::put::put_number;
 use crate::put::put_spaced;

@@ -1,16 +1,16 @@
--- Four parts: the word, the number, the place, and the line's end.
+-- Four parts: the word, the place, the length, and the line's end.
 use Prim.Native.Nat.{ℕ}
 use mathlib.Core.List.{List, [], _∷_}
 use native.Mathlib.Omega.{arith}
-use Rattle.layout.specs.Listing.{spaced, newline, refusedLine}
-use Rattle.listing.proofs.Putting.{four-put}
+use Rattle.layout.specs.Listing.{spaced, newline, casmLine}
+use Rattle.spell.proofs.Putting.{four-put}
 use borrow.Author.Needs.{needs}
-use Rattle.listing.proofs.lines.put_refused.Statement.{statement}
-use Rattle.listing.proofs.lines.put_refused.Tie as tie
+use Rattle.spell.proofs.lines.put_casm.Statement.{statement}
+use Rattle.spell.proofs.lines.put_casm.Tie as tie
 
--- `refused`
+-- `casm`
 abbrev word : List ℕ
-word = 0x72 ∷ 0x65 ∷ 0x66 ∷ 0x75 ∷ 0x73 ∷ 0x65 ∷ 0x64 ∷ []
+word = 0x63 ∷ 0x61 ∷ 0x73 ∷ 0x6D ∷ []
 
 slice-aggregate-put-bytes : tie.Need-slice-aggregate-put-bytes
 slice-aggregate-put-bytes c = search needs
@@ -34,17 +34,17 @@ same-length : tie.Need-same-length
 same-length c = search needs
 
 returns : tie.Need-returns
-unfolding refusedLine
+unfolding casmLine
 returns c =
     let t = c .before .before in
     let r = t .before .before .before .before .before in
     let q = r .before .before .before .before in
     let p = q .before .before .before .before in
     let a = p .before .before .before .before .args in
-    four-put (a .out .now) 0 word (spaced (a .number)) (spaced (a .place)) newline _ _ _ _ _ _ _ _ (omega arith) (omega arith) (omega arith) (p .put-bytes .ensures) (q .put-spaced .ensures .0) (r .put-spaced2 .ensures .0) (t .put-bytes2 .ensures)
+    (four-put (a .out .now) 0 word (spaced (a .tag)) (spaced (a .size)) newline _ _ _ _ _ _ _ _ (omega arith) (omega arith) (omega arith) (p .put-bytes .ensures) (q .put-spaced .ensures .0) (r .put-spaced2 .ensures .0) (t .put-bytes2 .ensures), omega arith)
 
-pub put-refused-spec : {M : Type 1} → statement M
-put-refused-spec =
+pub put-casm-spec : {M : Type 1} → statement M
+put-casm-spec =
     tie.close
     (tie.spec
     slice-aggregate-put-bytes
