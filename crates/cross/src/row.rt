@@ -4,11 +4,12 @@ ghost use Rattle.layout.specs.Records.{recordOf};
 ghost use Rattle.cross.specs.Rows.{secondOf, recorded, rowOf};
 use layout::record::Record;
 use layout::record::SecondTable;
+use layout::size::HELD;
 
 // A channel record: bytes 0-25, whether it has a Cntt (0 for none), and the Cntt's value. 28 bytes, as in a flat table.
 #[repr(C)]
 pub struct Row {
-    pub bytes: [u8; 26],
+    pub bytes: [u8; HELD],
     pub has_cntt: u8,
     pub cntt: u8,
 }
@@ -24,7 +25,7 @@ pub fn second_of(has_cntt: u8, cntt: u8) -> SecondTable
 }
 
 // The record of 26 bytes and a second table.
-fn made(bytes: [u8; 26], second: SecondTable) -> Record
+fn made(bytes: [u8; HELD], second: SecondTable) -> Record
     ensures { λ r. ⌜ r ≡ recordOf bytes second ⌝ }
 {
     record::held::record_of(&bytes, second)

@@ -9,6 +9,9 @@ use find::row::find_record;
 use layout::answer::Answered;
 use layout::record::Record;
 use layout::record::SourceChannel;
+use layout::refusal::BAD_NUMBER;
+use layout::refusal::OUT_OF_RANGE;
+use layout::size::HELD;
 use record::first_out;
 use record::held::bytes_of;
 use write::put::put_record;
@@ -29,12 +32,12 @@ fn edit_at(s: &mut [u8], at: usize, channel: SourceChannel, new: Record) -> Answ
 {
     let source = new.source;
     if source.0 != channel.0 {
-        return answer(16, 0);
+        return answer(BAD_NUMBER, 0);
     }
     let b = bytes_of(new);
-    let k = first_out(&b, 0, 26);
-    if k < 26 {
-        return answer(9, k);
+    let k = first_out(&b, 0, HELD);
+    if k < HELD {
+        return answer(OUT_OF_RANGE, k);
     }
     put_record(&mut s[at..], new);
     answer(0, 0)

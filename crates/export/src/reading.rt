@@ -1,4 +1,4 @@
-// Strict reading and the salvage list (document 01, "The CASM body" and "Salvage").
+// Strict reading and the salvage list (document 01, "The CASM body" and "The salvage list").
 ghost use Rattle.layout.specs.Promises.{CasmFound, BodyRead, PartFound, GroupFound, ChannelFound, Salvaged};
 ghost use Rattle.export.specs.Crossing.{located, counted, named, grouped, channelled};
 use crate::answer::Bounds;

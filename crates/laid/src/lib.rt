@@ -8,6 +8,7 @@ use cross::row::row_of;
 use flat::row_count;
 use layout::answer::Counted;
 use layout::record::Record;
+use layout::size::ROW;
 use table::counted;
 use table::plan_records;
 use table::record_at;
@@ -33,7 +34,7 @@ pub fn read_rows(s: &[u8], group: usize, flat: &mut [u8]) -> Counted
     let n = plan.count;
     let mut i: usize = 0;
     while i < n {
-        let at = 28 * i;
+        let at = ROW * i;
         put_row(&mut flat[at..], record_at(s, plan, i));
         i += 1;
     }

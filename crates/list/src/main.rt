@@ -1,4 +1,4 @@
-// Prints the salvage list of a style file's CASM body (document 01, "The program `list`"): reads standard input, and writes the text that `listing` makes of it.
+// Prints the salvage list of a style file's CASM body (document 01, "Marked examples": the program `list`): reads standard input, and writes the text that `listing` makes of it.
 use listing::TEXT;
 use listing::list_file;
 

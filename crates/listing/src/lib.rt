@@ -8,6 +8,8 @@ ghost use Rattle.layout.specs.Salvage.{salvage};
 ghost use Rattle.layout.specs.Listing.{entryLine, textListed, FileListed};
 ghost use Rattle.spell.specs.Puts.{Put};
 ghost use Rattle.listing.specs.Held.{entriesIn};
+use layout::limit::LISTED;
+use layout::refusal::OVER_LIMIT;
 use spell::lines::put_casm;
 use spell::lines::put_end;
 use spell::lines::put_entry;
@@ -52,8 +54,8 @@ pub fn list_file(file: &[u8], out: &mut [u8; TEXT]) -> usize
     ensures { λ r. ⌜ FileListed (now (file .entry)) (now (out .entry)) r (now (out .exit)) ⌝ }
 {
     let text: &mut [u8] = out;
-    if 65536 < file.len() {
-        return put_refused(text, 3, 0);
+    if LISTED < file.len() {
+        return put_refused(text, OVER_LIMIT, 0);
     }
     let found = style::find_casm(file);
     if found.number != 0 {

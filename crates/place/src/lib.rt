@@ -9,8 +9,14 @@ ghost use Rattle.layout.specs.Place.{effective, bypass, shift, folded, silence,
 ghost use Rattle.layout.specs.Promises.{NotePlaced};
 ghost use Rattle.place.specs.Octaves.{remainder};
 use layout::answer::Placed;
+use layout::limit::NOTE;
+use layout::limit::ROOT;
 use layout::record::Record;
 use layout::record::SecondTable;
+use layout::refusal::BAD_NUMBER;
+use layout::refusal::OUT_OF_RANGE;
+use layout::refusal::ROOT_FIXED;
+use layout::size::HELD;
 
 // The effective table: the Cntt value if present; else 00, 01, 02, 03, 04, 05 become 00, 01, 02, 81, 03, 05 (H).
 fn effective_table(second: SecondTable, table: u8) -> u8
@@ -130,15 +136,15 @@ fn hear(value: i32, low: u8, high: u8) -> Placed
 pub fn place_note(r: Record, root: u8, note: u8) -> Placed
     ensures { λ p. ⌜ NotePlaced r root note p ⌝ }
 {
-    if 11 < root {
-        return refusal(16, 0);
+    if ROOT < root {
+        return refusal(BAD_NUMBER, 0);
     }
-    if 127 < note {
-        return refusal(16, 0);
+    if NOTE < note {
+        return refusal(BAD_NUMBER, 0);
     }
     let bad = record::held::first_bad(r);
-    if bad < 26 {
-        return refusal(9, bad);
+    if bad < HELD {
+        return refusal(OUT_OF_RANGE, bad);
     }
     let low = r.low;
     let high = r.high;
@@ -146,7 +152,7 @@ pub fn place_note(r: Record, root: u8, note: u8) -> Placed
         return hear(note as i32, low, high);
     }
     if r.rule == 1 {
-        return refusal(17, 0);
+        return refusal(ROOT_FIXED, 0);
     }
     let shift = shift_to(r, root);
     hear((note as i32) + shift, low, high)

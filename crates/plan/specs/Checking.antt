@@ -1,5 +1,5 @@
 -- What the records looked at so far come to: a refusal, or which source channels they have (a bit for each) and the group's length so far.
-use Prim.Native.Nat.{ℕ, zero, suc, _+_, _*_, _-_, _^_}
+use Prim.Native.Nat.{ℕ, zero, suc, _+_, _*_, _-_, _^_, _<_, _≤_}
 use mathlib.Core.Bool.{cond, not}
 use mathlib.Core.List.{List, [], _++_}
 use lib.Bits.{bitOr}
@@ -33,6 +33,14 @@ begun text lent count =
 unfoldable pub chunksSize : SecondTable → ℕ
 chunksSize Absent = 35
 chunksSize (Value v) = 45
+
+-- more records than any memory lends: a slice has fewer than 2^63 bytes, and a record or a row takes 28 of them or more
+abbrev pub recordsNever : ℕ
+recordsNever = 340000000000000000
+
+-- where record number i is looked at next: memory lends that many, and what is seen is no longer than a group with a text of 255 bytes and i records with their Cntts
+abbrev pub Looking : Checked → ℕ → Type 0
+Looking x i = (i < recordsNever) × (x .length ≤ 271 + 45 * i)
 
 -- record number i looked at: 9, then 10; a refusal stays
 unfoldable pub looked : Checked → ℕ → Record → Checked

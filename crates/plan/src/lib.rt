@@ -1,12 +1,21 @@
 // What may be written (document 01, "Numbers of refusal": writing): 16, 8, per record 9 then 10, and room 14 last.
 ghost use mathlib.Core.Path.{_≡_};
-ghost use Prim.Native.Nat.{_+_, _*_, _≤_, _<_};
+ghost use Prim.Native.Nat.{_≤_};
 ghost use lib.ListN.{length};
 ghost use Rattle.layout.specs.Records.{recordOf};
-ghost use Rattle.plan.specs.Checking.{refusedAt, begun, chunksSize, looked, noPlan, planned, measuredBy};
+ghost use Rattle.plan.specs.Checking.{refusedAt, begun, chunksSize, Looking, looked, noPlan, planned, measuredBy};
 use layout::answer::Measured;
 use layout::record::Record;
 use layout::record::SecondTable;
+use layout::refusal::BAD_NUMBER;
+use layout::refusal::BAD_TEXT;
+use layout::refusal::CHANNEL_AGAIN;
+use layout::refusal::NO_ROOM;
+use layout::refusal::OUT_OF_RANGE;
+use layout::size::CTAB_AND_CNTT;
+use layout::size::CTAB_STRIDE;
+use layout::size::HELD;
+use layout::size::RECORD;
 use record::held::bytes_of;
 use record::held::first_bad_of;
 
@@ -45,10 +54,10 @@ pub fn begin(text: &[u8], lent: usize, count: usize) -> Checked
     ensures { λ r. ⌜ r ≡ begun (now (text .entry)) lent count ⌝ }
 {
     if lent < count {
-        return refused_at(16, 0);
+        return refused_at(BAD_NUMBER, 0);
     }
     if !names::is_sound_text(text) {
-        return refused_at(8, 0);
+        return refused_at(BAD_TEXT, 0);
     }
     Checked {
         number: 0,
@@ -64,27 +73,27 @@ fn chunks_size(second: SecondTable) -> usize
     ensures { λ r. ⌜ r ≡ chunksSize second ⌝ }
 {
     match second {
-        SecondTable::Absent => 35,
-        SecondTable::Value(_) => 45,
+        SecondTable::Absent => CTAB_STRIDE,
+        SecondTable::Value(_) => CTAB_AND_CNTT,
     }
 }
 
 // Record number i, whose bytes 0-25 stand at the start of b: its first byte out of range, then a source channel that an earlier record has.
 // A refusal stays.
 pub fn look_at_bytes(x: Checked, i: usize, b: &[u8], second: SecondTable) -> Checked
-    requires { ⌜ (26 ≤ length (now b)) × ((i < 340000000000000000) × (x .length ≤ 271 + 45 * i)) ⌝ }
+    requires { ⌜ (26 ≤ length (now b)) × Looking x i ⌝ }
     ensures { λ y. ⌜ y ≡ looked x i (recordOf (now (b .entry)) second) ⌝ }
 {
     if x.number != 0 {
         return x;
     }
     let k = first_bad_of(b, second);
-    if k < 26 {
-        return refused_at(9, 27 * i + k);
+    if k < HELD {
+        return refused_at(OUT_OF_RANGE, RECORD * i + k);
     }
     let channel = b[0] as usize;
     if (x.seen >> channel) % 2 == 1 {
-        return refused_at(10, 27 * i);
+        return refused_at(CHANNEL_AGAIN, RECORD * i);
     }
     Checked {
         number: 0,
@@ -97,7 +106,7 @@ pub fn look_at_bytes(x: Checked, i: usize, b: &[u8], second: SecondTable) -> Che
 
 // Record number i, in memory.
 pub fn look_at(x: Checked, i: usize, r: Record) -> Checked
-    requires { ⌜ (i < 340000000000000000) × (x .length ≤ 271 + 45 * i) ⌝ }
+    requires { ⌜ Looking x i ⌝ }
     ensures { λ y. ⌜ y ≡ looked x i r ⌝ }
 {
     let second = r.second;
@@ -124,7 +133,7 @@ pub fn plan_for(x: Checked, room: usize) -> Plan
         return no_plan(x.number, x.place);
     }
     if room < x.length {
-        return no_plan(14, 0);
+        return no_plan(NO_ROOM, 0);
     }
     Plan {
         number: 0,

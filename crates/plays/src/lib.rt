@@ -8,7 +8,13 @@ ghost use Rattle.layout.specs.Promises.{PlaysTold};
 ghost use Rattle.plays.specs.PlaysAt.{playsAt, playersAt};
 use find::Search;
 use layout::answer::Played;
+use layout::limit::CHANNELS;
+use layout::limit::KIND;
+use layout::limit::ROOT;
 use layout::record::SourceChannel;
+use layout::refusal::BAD_NUMBER;
+use layout::refusal::NOT_THERE;
+use layout::size::CTAB_STRIDE;
 
 // Whether the record whose byte 0 stands at `at` plays: both masks have their bit set.
 fn is_playing(s: &[u8], at: usize, root: u8, kind: u8) -> bool
@@ -28,11 +34,11 @@ fn players(s: &[u8], p: usize, n: usize, root: u8, kind: u8) -> Played
     requires { ⌜ (p + 35 * n ≤ length (now s)) × ((n ≤ 16) × ((root < 12) × (kind < 34))) ⌝ }
     ensures { λ r. ⌜ r ≡ played (granted (playersAt (now (s .entry)) p root kind n)) ⌝ }
 {
-    let mut channels: [SourceChannel; 16] = [SourceChannel(0); 16];
+    let mut channels: [SourceChannel; CHANNELS] = [SourceChannel(0); CHANNELS];
     let mut count: usize = 0;
     let mut i: usize = 0;
     while i < n {
-        let at = p + 35 * i + 8;
+        let at = p + CTAB_STRIDE * i + 8;
         i += 1;
         if !is_playing(s, at, root, kind) {
             continue;
@@ -56,7 +62,7 @@ fn nobody(number: u8, place: usize) -> Played
         number: number,
         place: place,
         count: 0,
-        channels: [SourceChannel(0); 16],
+        channels: [SourceChannel(0); CHANNELS],
     }
 }
 
@@ -68,14 +74,14 @@ pub fn who_plays(s: &[u8], name: &[u8], root: u8, kind: u8) -> Played
     if let Search::Refused(number, place) = search {
         return nobody(number, place);
     }
-    if root > 11 {
-        return nobody(16, 0);
+    if root > ROOT {
+        return nobody(BAD_NUMBER, 0);
     }
-    if kind > 33 {
-        return nobody(16, 0);
+    if kind > KIND {
+        return nobody(BAD_NUMBER, 0);
     }
     let Search::Found(_, x) = search else {
-        return nobody(15, 0);
+        return nobody(NOT_THERE, 0);
     };
     players(s, x.ctabs, x.records, root, kind)
 }

@@ -1,15 +1,19 @@
 // A group written from a flat table of records (document 01, "Writing and editing"). The rows are taken one at a time as they stand: no record of one is made, and no table of them.
 ghost use mathlib.Core.Path.{_≡_};
-ghost use Prim.Native.Nat.{_+_, _*_, _≤_, _<_};
+ghost use Prim.Native.Nat.{_+_, _≤_};
 ghost use lib.ListN.{length, take};
 ghost use Rattle.layout.specs.Edit.{replaced};
 ghost use Rattle.layout.specs.Promises.{GroupWritten};
-ghost use Rattle.plan.specs.Checking.{looked, planOf};
+ghost use Rattle.plan.specs.Checking.{Looking, looked, planOf};
 ghost use Rattle.plan.specs.Chunks.{chunkOf, chunksOf};
 ghost use Rattle.flat.specs.Flat.{lentRows, recordIn, tableOf};
 use cross::row::second_of;
 use flat::row_count;
 use layout::answer::Measured;
+use layout::size::CNTT_STRIDE;
+use layout::size::CTAB_STRIDE;
+use layout::size::HELD;
+use layout::size::ROW;
 use plan::Checked;
 use plan::Plan;
 use plan::begin;
@@ -23,7 +27,7 @@ use write::start::put_start;
 
 // Row number i looked at as the record that it stands for.
 fn look_at_row(x: Checked, i: usize, row: &[u8]) -> Checked
-    requires { ⌜ (length (now row) ≡ 28) × ((i < 340000000000000000) × (x .length ≤ 271 + 45 * i)) ⌝ }
+    requires { ⌜ (length (now row) ≡ 28) × Looking x i ⌝ }
     ensures { λ y. ⌜ y ≡ looked x i (recordIn (now (row .entry))) ⌝ }
 {
     look_at_bytes(x, i, row, second_of(row[26], row[27]))
@@ -37,8 +41,8 @@ fn plan_rows(text: &[u8], flat: &[u8], count: usize, room: usize) -> Plan
     let n = x.records;
     let mut i: usize = 0;
     while i < n {
-        let at = 28 * i;
-        x = look_at_row(x, i, &flat[at..at + 28]);
+        let at = ROW * i;
+        x = look_at_row(x, i, &flat[at..at + ROW]);
         i += 1;
     }
     plan_for(x, room)
@@ -51,16 +55,16 @@ fn put_row(out: &mut [u8], at: usize, row: &[u8], seconds: bool) -> usize
     ensures { λ m. ⌜ (m ≡ at + length (chunkOf seconds (recordIn (now (row .entry))))) × (now (out .exit) ≡ replaced (now (out .entry)) at (chunkOf seconds (recordIn (now (row .entry))))) ⌝ }
 {
     if !seconds {
-        let mut b = [0u8; 26];
-        put_bytes(&mut b, &row[0..26]);
+        let mut b = [0u8; HELD];
+        put_bytes(&mut b, &row[0..HELD]);
         put_ctab(&mut out[at..], &b);
-        return at + 35;
+        return at + CTAB_STRIDE;
     }
     if row[26] == 0 {
         return at;
     }
     put_cntt(&mut out[at..], row[0], row[27]);
-    at + 10
+    at + CNTT_STRIDE
 }
 
 // The chunks of the first n records from `at` on, and the place behind them: their Ctabs, or, where `seconds`, their Cntts.
@@ -71,8 +75,8 @@ fn put_chunks(flat: &[u8], n: usize, out: &mut [u8], at: usize, seconds: bool) -
     let mut to = at;
     let mut i: usize = 0;
     while i < n {
-        let from = 28 * i;
-        to = put_row(out, to, &flat[from..from + 28], seconds);
+        let from = ROW * i;
+        to = put_row(out, to, &flat[from..from + ROW], seconds);
         i += 1;
     }
     to

@@ -2,6 +2,9 @@
 ghost use Rattle.layout.specs.Promises.{FieldSet};
 use layout::answer::Changed;
 use layout::record::Record;
+use layout::refusal::BAD_NUMBER;
+use layout::refusal::OUT_OF_RANGE;
+use layout::size::HELD;
 use record::held::bytes_of;
 use record::held::record_of;
 use record::is_out;
@@ -10,16 +13,16 @@ use record::is_out;
 pub fn set_field(r: Record, index: usize, value: u8) -> Changed
     ensures { λ c. ⌜ FieldSet r index value c ⌝ }
 {
-    if 26 <= index {
+    if HELD <= index {
         return Changed {
-            number: 16,
+            number: BAD_NUMBER,
             place: 0,
             held: r,
         };
     }
     if is_out(index, value) {
         return Changed {
-            number: 9,
+            number: OUT_OF_RANGE,
             place: index,
             held: r,
         };

@@ -8,6 +8,11 @@ use find::Search;
 use layout::answer::Counted;
 use layout::record::Record;
 use layout::record::SecondTable;
+use layout::refusal::BAD_NUMBER;
+use layout::refusal::NO_ROOM;
+use layout::size::CNTT_STRIDE;
+use layout::size::CTAB_STRIDE;
+use layout::size::HELD;
 
 // What reading a group's records comes to: the refusal, or how many there are, and where the group's Ctabs and Cntts begin in the body.
 pub struct Reading {
@@ -39,10 +44,10 @@ pub fn plan_records(s: &[u8], group: usize, room: usize) -> Reading
 {
     match find::find_group(s, group) {
         Search::Refused(number, place) => no_records(number, place),
-        Search::Missing => no_records(16, 0),
+        Search::Missing => no_records(BAD_NUMBER, 0),
         Search::Found(_, x) => {
             if room < x.records {
-                return no_records(14, 0);
+                return no_records(NO_ROOM, 0);
             }
             Reading {
                 number: 0,
@@ -63,7 +68,7 @@ fn second_at(s: &[u8], cntts: usize, seconds: usize, channel: u8) -> SecondTable
 {
     let mut j: usize = 0;
     while j < seconds {
-        let at = cntts + 10 * j;
+        let at = cntts + CNTT_STRIDE * j;
         if s[at + 8] == channel {
             return SecondTable::Value(s[at + 9]);
         }
@@ -77,9 +82,9 @@ pub fn record_at(s: &[u8], plan: Reading, i: usize) -> Record
     requires { ⌜ (plan .ctabs + 35 * i + 35 ≤ length (now s)) × (plan .cntts + 10 * plan .seconds ≤ length (now s)) ⌝ }
     ensures { λ r. ⌜ r ≡ recordAt (now (s .entry)) (plan .ctabs) (plan .cntts) (plan .seconds) i ⌝ }
 {
-    let at = plan.ctabs + 35 * i + 8;
+    let at = plan.ctabs + CTAB_STRIDE * i + 8;
     let second = second_at(s, plan.cntts, plan.seconds, s[at]);
-    record::held::record_of(&s[at..at + 26], second)
+    record::held::record_of(&s[at..at + HELD], second)
 }
 
 // The answer of a plan.

@@ -13,6 +13,14 @@ use crate::put::put_head;
 use crate::put::put_held;
 use layout::record::Record;
 use layout::record::SecondTable;
+use layout::size::CNTT_BYTES;
+use layout::size::CNTT_STRIDE;
+use layout::size::CTAB_STRIDE;
+use layout::size::RECORD;
+use layout::tag::CNTT;
+use layout::tag::CSEG;
+use layout::tag::CTAB;
+use layout::tag::SDEC;
 use record::held::bytes_of;
 
 // An Sdec: its text behind its header.
@@ -20,7 +28,7 @@ fn put_sdec(out: &mut [u8], text: &[u8])
     requires { ⌜ 8 + length (now text) ≤ length (now out) ⌝ }
     ensures { λ _. ⌜ now (out .exit) ≡ chunk Sdec (now (text .entry)) ++ drop (8 + length (now (text .entry))) (now (out .entry)) ⌝ }
 {
-    put_head(out, 0x5364_6563, text.len());
+    put_head(out, SDEC, text.len());
     put_bytes(&mut out[8..], text);
 }
 
@@ -29,7 +37,7 @@ pub fn put_front(out: &mut [u8], text: &[u8], size: usize)
     requires { ⌜ 16 + length (now text) ≤ length (now out) ⌝ }
     ensures { λ _. ⌜ now (out .exit) ≡ CSEG ++ (four size ++ (chunk Sdec (now (text .entry)) ++ drop (16 + length (now (text .entry))) (now (out .entry)))) ⌝ }
 {
-    put_head(out, 0x4353_4547, size);
+    put_head(out, CSEG, size);
     put_sdec(&mut out[8..], text);
 }
 
@@ -38,7 +46,7 @@ pub fn put_ctab(out: &mut [u8], b: &[u8])
     requires { ⌜ (length (now b) ≡ 26) × (35 ≤ length (now out)) ⌝ }
     ensures { λ _. ⌜ now (out .exit) ≡ chunk Ctab (now (b .entry) ++ (0 ∷ [])) ++ drop 35 (now (out .entry)) ⌝ }
 {
-    put_head(out, 0x4374_6162, 27);
+    put_head(out, CTAB, RECORD);
     put_held(&mut out[8..], b);
 }
 
@@ -47,7 +55,7 @@ pub fn put_cntt(out: &mut [u8], channel: u8, v: u8)
     requires { ⌜ 10 ≤ length (now out) ⌝ }
     ensures { λ _. ⌜ now (out .exit) ≡ cnttBytes channel (Value v) ++ drop 10 (now (out .entry)) ⌝ }
 {
-    put_head(out, 0x436E_7474, 2);
+    put_head(out, CNTT, CNTT_BYTES);
     out[8] = channel;
     out[9] = v;
 }
@@ -60,7 +68,7 @@ pub fn put_chunk(out: &mut [u8], at: usize, r: Record, seconds: bool) -> usize
     if !seconds {
         let b = bytes_of(r);
         put_ctab(&mut out[at..], &b);
-        return at + 35;
+        return at + CTAB_STRIDE;
     }
     let source = r.source;
     let second = r.second;
@@ -68,7 +76,7 @@ pub fn put_chunk(out: &mut [u8], at: usize, r: Record, seconds: bool) -> usize
         SecondTable::Absent => at,
         SecondTable::Value(v) => {
             put_cntt(&mut out[at..], source.0, v);
-            at + 10
+            at + CNTT_STRIDE
         }
     }
 }

@@ -53,7 +53,7 @@ use Rattle.layout.specs.declared.record.Record.{Record}
 use Rattle.layout.specs.Records.{blank}
 use Rattle.plan.specs.declared.Checked.{Checked}
 use Rattle.plan.specs.declared.Plan.{Plan}
-use Rattle.plan.specs.Checking.{begun, looked, lookedAt, planned, planOf}
+use Rattle.plan.specs.Checking.{begun, recordsNever, Looking, looked, lookedAt, planned, planOf}
 use Rattle.layout.proofs.record.Record as T
 use Rattle.layout.proofs.record.Record.Laws as T′
 use Rattle.plan.proofs.Checked as K
@@ -104,7 +104,7 @@ Num = plain (λ _. usize)
 abbrev stayed : Stays (group.ended .signature .params) (group.ended .kept)
 stayed = (stay-dropped Text yes, (stay-dropped Table yes, (stay-dropped Num yes, (stay-dropped Num yes, tt))))
 
-few : {n l : ℕ} → l * 28 < 2 ^ 63 → n < l → n < 340000000000000000
+few : {n l : ℕ} → l * 28 < 2 ^ 63 → n < l → n < recordsNever
 few room within = omega (arith, room, within)
 
 -- ---- the state
@@ -202,7 +202,7 @@ module _ {M : Type 1} (𝓤 : URA M) (H : Heap 𝓤) (A : Atoms 𝓤) (W : Given
   abbrev to-look : Checked → ℕ → Record → Look 𝓤 H A mem run .Ghost
   to-look x i r = ((tt, tt, tt, (x, (i, (r, tt))), (valsK x, (vint w64 i ∷ [], (vals r, tt)))), tt)
 
-  goes-look : (x : Checked) (i : ℕ) (r : Record) → i < 2 ^ 64 → Is R r (vals r) → (i < 340000000000000000) × (x .length ≤ 271 + 45 * i) → ent 𝓤 (sem 𝓤 H A (OwnX x)) (Look 𝓤 H A mem run .pre (to-look x i r))
+  goes-look : (x : Checked) (i : ℕ) (r : Record) → i < 2 ^ 64 → Is R r (vals r) → Looking x i → ent 𝓤 (sem 𝓤 H A (OwnX x)) (Look 𝓤 H A mem run .pre (to-look x i r))
   goes-look x i r fits g within = qed W (‵ (OwnX x) ∷ []) ∵ says ! within $ nothing ! $ frame ! $ nothing ! $ owned ! R (Is R) (LL.makes T.the-type T′.the-plain 𝓤 H A) r _ g $ fjoin ! $
       owned ! usize (Is usize) (uint-makes 𝓤 H A W w64) i _ (refl, fits) $ fjoin ! $ move ! (1 ∷ 0 ∷ []) $ fjoin ! $ done !
 

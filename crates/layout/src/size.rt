@@ -1,0 +1,16 @@
+// The sizes of document 01, in bytes.
+
+// A record in the file, and of it what is held in memory.
+pub const RECORD: usize = 27;
+
+pub const HELD: usize = 26;
+// A Ctab with its header: one stands so far from the next.
+pub const CTAB_STRIDE: usize = 35;
+// What a Cntt holds, and a Cntt with its header.
+pub const CNTT_BYTES: usize = 2;
+
+pub const CNTT_STRIDE: usize = 10;
+// A Ctab and a Cntt, with their headers.
+pub const CTAB_AND_CNTT: usize = 45;
+// A record as it crosses to C: what is held, whether there is a Cntt, and its value.
+pub const ROW: usize = 28;
