@@ -101,7 +101,7 @@ kind == "src" && /^\/\/ / { comment = comment (comment == "" ? "" : " ") substr(
 kind == "src" && /^ *$/ { comment = "" }
 kind == "src" && /^(pub |pub\(crate\) )?(extern "C" )?fn / {
     name = $0; sub(/^.*fn /, "", name); sub(/[(<].*/, "", name)
-    fn = crate == "casm" ? base "::" name : crate == "export" ? name : crate "::" name
+    fn = crate == "casm" ? base "::" name : crate == "c_export" ? name : crate "::" name
     if (fn in signature) fn = fn " of " base
     functions[++fn_count] = fn
     public[fn] = /^pub (extern "C" )?fn/; crate_of[fn] = crate; source[fn] = FILENAME
@@ -179,10 +179,10 @@ function one_call(name, f, n, i, item, list) {
     n = split(uses_of(contract[f], source[f]), item, "\n")
     for (i = 1; i <= n; i++) if (item[i] ~ /\.[A-Z][A-Za-z]*$/) {
         printf "- %s: %s\n", linked(item[i]), said[item[i]] >> page
-        list = crate_of[f] == "export" ? "" : stated(item[i])
+        list = crate_of[f] == "c_export" ? "" : stated(item[i])
         if (list != "") printf "- stated of it: %s\n", list >> page
     }
-    list = crate_of[f] == "export" || crate_of[f] == "bridge" ? naming(name) : ""
+    list = crate_of[f] == "c_export" || crate_of[f] == "casm_by_value" ? naming(name) : ""
     if (list != "") printf "- stated of it by name: %s\n", list >> page
     if (name in refusals && refusals[name] !~ /^as /) printf "- refusals in order: %s\n", refusals[name] >> page
     else if (name in refusals) printf "- answers as %s\n", call_link(substr(refusals[name], 4)) >> page
@@ -206,15 +206,15 @@ function promises_page(i, f) {
     }
     unlisted("casm", ".ci/refusals")
     printf "\n## By value, for programs\n" >> page
-    for (i = 1; i <= fn_count; i++) if (public[functions[i]] && crate_of[functions[i]] == "bridge") one_call(functions[i], functions[i])
+    for (i = 1; i <= fn_count; i++) if (public[functions[i]] && crate_of[functions[i]] == "casm_by_value") one_call(functions[i], functions[i])
     printf "\n## The calls for C\n" >> page
     for (i = 1; i <= c_count; i++) {
         f = c_calls[i]
-        if (!(f in signature)) { complain("include/casm.h has " f ", and crates/export does not"); continue }
+        if (!(f in signature)) { complain("include/casm.h has " f ", and crates/c_export does not"); continue }
         listed[f] = 1
         one_call(f, f)
     }
-    unlisted("export", "include/casm.h")
+    unlisted("c_export", "include/casm.h")
 }
 
 # A comment quotes a document where it has a phrase in quotes, and not only a tag.

@@ -7,10 +7,10 @@ lib=$here/target/staticlib
 # The archive, proved and written where a crate changed since. What rt says is printed where it fails.
 archive() {
     stamp=$lib/written
-    if [ ! -f "$lib/libexport.a" ] || [ ! -f "$stamp" ] || [ -n "$(find "$here/crates" "$here/crates.txt" -newer "$stamp" -print -quit)" ]; then
+    if [ ! -f "$lib/libc_export.a" ] || [ ! -f "$stamp" ] || [ -n "$(find "$here/crates" "$here/crates.txt" -newer "$stamp" -print -quit)" ]; then
         mkdir -p "$lib"
         touch "$stamp.begun"
-        said=$(cd "$here" && rt staticlib export 2>&1) || { echo "$said"; echo "rt staticlib export failed"; exit 1; }
+        said=$(cd "$here" && rt staticlib c_export 2>&1) || { echo "$said"; echo "rt staticlib c_export failed"; exit 1; }
         mv "$stamp.begun" "$stamp"
     fi
 }
@@ -27,7 +27,7 @@ link() {
     program=$1
     shift
     (cd "$lib" && "$kit/bin/ld.lld" -pie -dynamic-linker /lib64/ld-linux-x86-64.so.2 -o "$program" "$kit/lib/Scrt1.o" "$kit/lib/crti.o" "$kit/lib/crtbeginS.o" \
-        "$@" libexport.a "$kit/lib/libc.so.6" "$kit/lib/libc_nonshared.a" "$kit/lib/libgcc.a" "$kit/lib/crtendS.o" "$kit/lib/crtn.o")
+        "$@" libc_export.a "$kit/lib/libc.so.6" "$kit/lib/libc_nonshared.a" "$kit/lib/libgcc.a" "$kit/lib/crtendS.o" "$kit/lib/crtn.o")
 }
 
 # start PROGRAM WORD ..: the archive is for x86-64; elsewhere the kit has an emulator, a loader and a C library for it.

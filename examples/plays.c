@@ -1,6 +1,6 @@
 /* plays FILE PART ROOT TYPE: who plays in a style file for a part, a chord root (0-11, C is 0) and a chord type (0-33).
  *
- * rt staticlib export && cc -Iinclude examples/plays.c target/staticlib/libexport.a -o plays    (x86-64 Linux)
+ * rt staticlib c_export && cc -Iinclude examples/plays.c target/staticlib/libc_export.a -o plays    (x86-64 Linux)
  *
  * With the kit's clang, here or on Arm: examples/build. */
 #include "style.h"

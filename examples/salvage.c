@@ -1,6 +1,6 @@
 /* salvage FILE: reads the CASM section of a style file strictly; where it is damaged, lists what of it is sound and what is not.
  *
- * rt staticlib export && cc -Iinclude examples/salvage.c target/staticlib/libexport.a -o salvage    (x86-64 Linux)
+ * rt staticlib c_export && cc -Iinclude examples/salvage.c target/staticlib/libc_export.a -o salvage    (x86-64 Linux)
  *
  * With the kit's clang, here or on Arm: examples/build. */
 #include "style.h"

@@ -8,12 +8,12 @@ use layout::size::HELD;
 pub fn record_of(b: [u8; HELD], second: SecondTable) -> Record
     ensures { λ r. ⌜ RecordMade b second r ⌝ }
 {
-    record::held::record_of(&b, second)
+    read_record::held::record_of(&b, second)
 }
 
 // Bytes 0-25 of a record.
 pub fn bytes_of(r: Record) -> [u8; HELD]
     ensures { λ b. ⌜ BytesTold r b ⌝ }
 {
-    record::held::bytes_of(r)
+    read_record::held::bytes_of(r)
 }

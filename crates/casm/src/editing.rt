@@ -8,5 +8,5 @@ use layout::record::SourceChannel;
 pub fn edit_record(s: &mut [u8], group: usize, channel: SourceChannel, new: Record) -> Answered
     ensures { λ r. ⌜ RecordEdited (now (s .entry)) group (channel .0) new r (now (s .exit)) ⌝ }
 {
-    edit::edit_record(s, group, channel, new)
+    write_edit::edit_record(s, group, channel, new)
 }

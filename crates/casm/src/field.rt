@@ -9,7 +9,7 @@ use layout::record::Record;
 pub fn set_field(r: Record, index: usize, value: u8) -> Changed
     ensures { λ c. ⌜ FieldSet r index value c ⌝ }
 {
-    screen::set_field(r, index, value)
+    write_field::set_field(r, index, value)
 }
 
 // The answer alone.

@@ -1,2 +1,2 @@
 // A group's records, read into a lent table. The call promises `RecordsRead`.
-pub use filled::read_records;
+pub use read_filled::read_records;

@@ -1,2 +1,2 @@
 // Writing a group. The call promises `GroupWritten`.
-pub use written::write_group;
+pub use write_table::write_group;

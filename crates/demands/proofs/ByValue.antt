@@ -1,11 +1,11 @@
 -- Demand 1 of the lent forms by value: each by the proof of its function, and by the laws of the call of the face beside it.
 use lib.ListN.{take}
-use Rattle.bridge.proofs.read_with_room.Met as read-with-room
-use Rattle.bridge.proofs.write.write_with.Met as write-with
-use Rattle.bridge.proofs.set_with.Met as set-with
-use Rattle.refusals.proofs.Calls.{records-given}
-use Rattle.refusals.proofs.Changes.{write-given}
-use Rattle.refusals.proofs.Kept.{buffer-kept}
+use Rattle.casm_by_value.proofs.read_with_room.Met as read-with-room
+use Rattle.casm_by_value.proofs.write.write_with.Met as write-with
+use Rattle.casm_by_value.proofs.set_with.Met as set-with
+use Rattle.law_refusals.proofs.Calls.{records-given}
+use Rattle.law_refusals.proofs.Changes.{write-given}
+use Rattle.law_refusals.proofs.Kept.{buffer-kept}
 use Rattle.law_crossing.proofs.Refused.{table-kept}
 use Rattle.demands.specs.ByValue.{EveryFormEnds, ReadWithRoomRefuses, WriteWithRefuses}
 

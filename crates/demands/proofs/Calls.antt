@@ -6,12 +6,12 @@ use Rattle.casm.proofs.read.find_group.Met as find-group
 use Rattle.casm.proofs.read.find_part.Met as find-part
 use Rattle.casm.proofs.read.find_channel.Met as find-channel
 use Rattle.casm.proofs.read.group_text.Met as group-text
-use Rattle.filled.proofs.read_records.Met as read-records
+use Rattle.read_filled.proofs.read_records.Met as read-records
 use Rattle.casm.proofs.questions.who_plays.Met as who-plays
 use Rattle.casm.proofs.questions.find_voice.Met as find-voice
 use Rattle.casm.proofs.questions.voice_name.Met as voice-name
 use Rattle.casm.proofs.questions.place_note.Met as place-note
-use Rattle.written.proofs.write_group.Met as write-group
+use Rattle.write_table.proofs.write_group.Met as write-group
 use Rattle.casm.proofs.editing.edit_record.Met as edit-record
 use Rattle.casm.proofs.field.set_field.Met as set-field
 use Rattle.casm.proofs.field.set_in_place.Met as set-in-place

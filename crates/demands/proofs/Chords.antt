@@ -5,7 +5,7 @@ use lib.ListN.{length, getD, take, drop}
 use lib.Seq.{getD-take, getD-drop}
 use Rattle.layout.specs.Lists.{All}
 use Rattle.layout.specs.Plays.{chordTypes}
-use Rattle.laws.proofs.Bits.{chord-bit}
+use Rattle.law_salvage.proofs.Bits.{chord-bit}
 use Rattle.layout.proofs.Elements.{all-so}
 use Rattle.demands.specs.Chords.{ByteOfChords, chordBytes, TypesByTheirBits, MaskByItsBytes}
 

@@ -1,24 +1,24 @@
 -- Demand 1 of the calls for C: each by the proof of its function, and by the laws of the call of the face beside it.
-use Rattle.export.proofs.reading.casm_find.Met as casm-find
-use Rattle.export.proofs.reading.casm_body.Met as casm-body
-use Rattle.export.proofs.reading.casm_part.Met as casm-part
-use Rattle.export.proofs.reading.casm_group.Met as casm-group
-use Rattle.export.proofs.reading.casm_channel.Met as casm-channel
-use Rattle.export.proofs.reading.casm_salvage.Met as casm-salvage
-use Rattle.export.proofs.asking.casm_plays.Met as casm-plays
-use Rattle.export.proofs.asking.casm_voice.Met as casm-voice
-use Rattle.export.proofs.asking.casm_place.Met as casm-place
-use Rattle.export.proofs.changing.casm_edit.Met as casm-edit
-use Rattle.export.proofs.changing.casm_field.Met as casm-field
-use Rattle.export.proofs.tables.casm_write.Met as casm-write
-use Rattle.export.proofs.tables.casm_records.Met as casm-records
-use Rattle.cross.specs.Rows.{recorded}
-use Rattle.flat.specs.Flat.{tableOf}
-use Rattle.export.specs.Crossing.{answered, counted, measured, located, named, grouped, channelled, spanned, played, placed}
-use Rattle.refusals.proofs.Calls.{casm-given, body-given, group-given, part-given, channel-given, voice-given, players-given, note-given}
-use Rattle.refusals.proofs.Changes.{write-given, edit-given, salvage-given}
-use Rattle.refusals.proofs.Kept.{buffer-kept, body-kept, list-kept}
-use Rattle.refusals.proofs.Nothing.{casm-nothing, body-nothing, group-nothing, part-nothing, channel-nothing, voice-nothing, note-nothing}
+use Rattle.c_export.proofs.reading.casm_find.Met as casm-find
+use Rattle.c_export.proofs.reading.casm_body.Met as casm-body
+use Rattle.c_export.proofs.reading.casm_part.Met as casm-part
+use Rattle.c_export.proofs.reading.casm_group.Met as casm-group
+use Rattle.c_export.proofs.reading.casm_channel.Met as casm-channel
+use Rattle.c_export.proofs.reading.casm_salvage.Met as casm-salvage
+use Rattle.c_export.proofs.asking.casm_plays.Met as casm-plays
+use Rattle.c_export.proofs.asking.casm_voice.Met as casm-voice
+use Rattle.c_export.proofs.asking.casm_place.Met as casm-place
+use Rattle.c_export.proofs.changing.casm_edit.Met as casm-edit
+use Rattle.c_export.proofs.changing.casm_field.Met as casm-field
+use Rattle.c_export.proofs.tables.casm_write.Met as casm-write
+use Rattle.c_export.proofs.tables.casm_records.Met as casm-records
+use Rattle.c_row.specs.Rows.{recorded}
+use Rattle.c_flat.specs.Flat.{tableOf}
+use Rattle.c_export.specs.Crossing.{answered, counted, measured, located, named, grouped, channelled, spanned, played, placed}
+use Rattle.law_refusals.proofs.Calls.{casm-given, body-given, group-given, part-given, channel-given, voice-given, players-given, note-given}
+use Rattle.law_refusals.proofs.Changes.{write-given, edit-given, salvage-given}
+use Rattle.law_refusals.proofs.Kept.{buffer-kept, body-kept, list-kept}
+use Rattle.law_refusals.proofs.Nothing.{casm-nothing, body-nothing, group-nothing, part-nothing, channel-nothing, voice-nothing, note-nothing}
 use Rattle.law_crossing.proofs.Refused.{players-nobody, field-crossed-given, field-crossed-kept, rows-given, rows-kept}
 use Rattle.demands.specs.ForC.{EveryCCallEnds, FindRefuses, BodyRefuses, PartRefuses, GroupRefuses, ChannelRefuses, SalvageRefuses, PlaysRefuses, VoiceRefuses, PlaceRefuses, EditRefuses, FieldRefuses, WriteRefuses, RecordsRefuse}
 

@@ -1,7 +1,7 @@
 -- Demand 1, lent memory and result fields: each statement by one law.
-use Rattle.refusals.proofs.Kept.{records-kept, buffer-kept, body-kept, record-kept, list-kept}
-use Rattle.refusals.proofs.Nothing.{field-nothing, casm-nothing, body-nothing, group-nothing, part-nothing, channel-nothing, voice-nothing, players-nothing, note-nothing}
-use Rattle.refusals.proofs.Parts.{text-nothing, voice-part-nothing}
+use Rattle.law_refusals.proofs.Kept.{records-kept, buffer-kept, body-kept, record-kept, list-kept}
+use Rattle.law_refusals.proofs.Nothing.{field-nothing, casm-nothing, body-nothing, group-nothing, part-nothing, channel-nothing, voice-nothing, players-nothing, note-nothing}
+use Rattle.law_refusals.proofs.Parts.{text-nothing, voice-part-nothing}
 use Rattle.demands.specs.LentMemory.{TableKept, BufferKept, BodyKept, RecordKept, HeldKept, ListKept, NoCasmTold, NoCountTold, NoGroupTold, NoPartTold, NoChannelTold, NoVoiceTold, NobodyTold, NoNoteTold, NoTextShown, NoVoiceShown}
 
 pub table-kept : TableKept

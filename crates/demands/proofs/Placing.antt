@@ -1,6 +1,6 @@
 -- Demand 2, note placement at the call: each statement by one law, the shift by one for each of its cases.
-use Rattle.place.proofs.Shifting.{bypass-stays, shift-to-the-key, shift-past-the-key}
-use Rattle.place.proofs.Placing.{sounds-told, silence-told}
+use Rattle.ask_place.proofs.Shifting.{bypass-stays, shift-to-the-key, shift-past-the-key}
+use Rattle.ask_place.proofs.Placing.{sounds-told, silence-told}
 use Rattle.demands.specs.Placing.{ShiftIsTheDocuments, NoteIsTold, SilenceIsTold}
 
 pub shift-is-the-documents : ShiftIsTheDocuments

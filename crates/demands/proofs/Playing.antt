@@ -10,11 +10,11 @@ use Rattle.layout.specs.Group.{Group}
 use Rattle.layout.specs.Body.{groupNo}
 use Rattle.layout.specs.Plays.{playing, whoPlays, played}
 use Rattle.layout.proofs.Sixteen.{Channels}
-use Rattle.refusals.specs.Body.{Named}
-use Rattle.refusals.specs.After.{HasGroup}
-use Rattle.refusals.proofs.BodyExact.{body-ended}
-use Rattle.refusals.proofs.Players.{PlayersFound, players-found}
-use Rattle.plays.proofs.Playing.{channelIn, players-picked, told-bits, bits-told, told-channel, told-once, told-in-sixteen, place-unused, group-channels-apart}
+use Rattle.law_refusals.specs.Body.{Named}
+use Rattle.law_refusals.specs.After.{HasGroup}
+use Rattle.law_refusals.proofs.BodyExact.{body-ended}
+use Rattle.law_refusals.proofs.Players.{PlayersFound, players-found}
+use Rattle.ask_plays.proofs.Playing.{channelIn, players-picked, told-bits, bits-told, told-channel, told-once, told-in-sixteen, place-unused, group-channels-apart}
 use Rattle.demands.specs.Playing.{ChannelsTold, WhoPlaysIsTold}
 
 channels-told : (g : Group) (root type : ℕ) → Channels (channelIn (g .records)) (length (g .records)) → ChannelsTold (g .records) root type (played (granted (playing g root type)))

@@ -1,7 +1,7 @@
 -- Demand 1, number and place: each statement by one law.
-use Rattle.refusals.proofs.Calls.{casm-given, body-given, group-given, part-given, channel-given, records-given, voice-given, players-given, note-given}
-use Rattle.refusals.proofs.Changes.{write-given, edit-given, field-given, field-in-place-given, salvage-given}
-use Rattle.refusals.proofs.Reasons.{kinds-refused}
+use Rattle.law_refusals.proofs.Calls.{casm-given, body-given, group-given, part-given, channel-given, records-given, voice-given, players-given, note-given}
+use Rattle.law_refusals.proofs.Changes.{write-given, edit-given, field-given, field-in-place-given, salvage-given}
+use Rattle.law_refusals.proofs.Reasons.{kinds-refused}
 use Rattle.demands.specs.Refusals.{CasmRefused, BodyReadRefused, GroupFoundRefused, PartFoundRefused, ChannelFoundRefused, RecordsReadRefused, VoiceFoundRefused, WhoPlaysRefused, NotePlacedRefused, GroupWrittenRefused, RecordEditedRefused, FieldSetRefused, FieldInPlaceRefused, SalvagedRefused, KindsAreRefusals}
 
 pub casm-refused : CasmRefused

@@ -9,12 +9,12 @@ use Rattle.layout.specs.Ranges.{inside}
 use Rattle.layout.specs.Sdec.{firstName, laterNames, names, soundText}
 use Rattle.layout.specs.Group.{headFault, ctabsOver, ctabAt, ctabTurn, cnttAt, cnttTurn, cnttsOf, ctabsOf, afterCntts, afterCtabs, contents, payload, groupSize, behindHeader, groupAt}
 use Rattle.layout.specs.Salvage.{cseg, front, pieces, rest, listed, judged, parts, entriesFrom, salvage}
-use Rattle.laws.specs.Salvage.{GroupsBody, NoneCompleted, groupsFrom, moved, movedByChange}
-use Rattle.laws.proofs.Entries.{entries-cover-body, entries-give-back, kinds-exact}
-use Rattle.laws.proofs.Starts.{Lone, groups-body}
-use Rattle.laws.proofs.Damage.{groups-listed, damage-local}
-use Rattle.laws.proofs.Calls.{accepted-lists, damage-local-call}
-use Rattle.laws.proofs.Tested.{free, free-by, apart, none-by}
+use Rattle.law_salvage.specs.Salvage.{GroupsBody, NoneCompleted, groupsFrom, moved, movedByChange}
+use Rattle.law_salvage.proofs.Entries.{entries-cover-body, entries-give-back, kinds-exact}
+use Rattle.law_salvage.proofs.Starts.{Lone, groups-body}
+use Rattle.law_salvage.proofs.Damage.{groups-listed, damage-local}
+use Rattle.law_salvage.proofs.Calls.{accepted-lists, damage-local-call}
+use Rattle.law_salvage.proofs.Tested.{free, free-by, apart, none-by}
 use Rattle.demands.specs.Examples.{M, N}
 use Rattle.demands.specs.Salvage.{EachGroupIsListed, DamageStaysLocal, DamageStaysLocalAtTheCall, EntriesCover, EntriesGiveBack, KindsAreExact, CallsList, ExampleNine}
 

@@ -1,6 +1,6 @@
 -- Demand 1, what is sound: each statement by one law.
-use Rattle.refusals.proofs.Sound.{text-sound, group-stands}
-use Rattle.refusals.proofs.Reasons.{refused-kinds}
+use Rattle.law_refusals.proofs.Sound.{text-sound, group-stands}
+use Rattle.law_refusals.proofs.Reasons.{refused-kinds}
 use Rattle.demands.specs.Sound.{SoundTextExactly, GroupStandsExactly, RefusalsAreKinds}
 
 pub sound-text-exactly : SoundTextExactly

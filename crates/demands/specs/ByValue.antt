@@ -1,4 +1,4 @@
--- Demand 1 of the lent forms by value (`bridge`), for programs that pass a table or a record instead of lending it. `set_with` promises `FieldSet`, so what is said of `set_field` is said of it.
+-- Demand 1 of the lent forms by value (`casm_by_value`), for programs that pass a table or a record instead of lending it. `set_with` promises `FieldSet`, so what is said of `set_field` is said of it.
 use Prim.Native.Nat.{ℕ}
 use mathlib.Core.Path.{_≡_}
 use mathlib.Core.List.{List}
@@ -6,12 +6,12 @@ use lib.ListN.{length, take, drop}
 use Rattle.layout.specs.declared.record.Record.{Record}
 use Rattle.layout.specs.declared.answer.Measured.{Measured}
 use Rattle.layout.specs.Promises.{RecordsRead, GroupWritten}
-use Rattle.bridge.specs.declared.Filled.{Filled}
-use Rattle.bridge.proofs.read_with_room.Statement as read-with-room
-use Rattle.bridge.proofs.write.write_with.Statement as write-with
-use Rattle.bridge.proofs.set_with.Statement as set-with
-use Rattle.refusals.specs.After.{RecordsAsked}
-use Rattle.refusals.specs.Records.{WriteRefused}
+use Rattle.casm_by_value.specs.declared.Filled.{Filled}
+use Rattle.casm_by_value.proofs.read_with_room.Statement as read-with-room
+use Rattle.casm_by_value.proofs.write.write_with.Statement as write-with
+use Rattle.casm_by_value.proofs.set_with.Statement as set-with
+use Rattle.law_refusals.specs.After.{RecordsAsked}
+use Rattle.law_refusals.specs.Records.{WriteRefused}
 use Rattle.demands.specs.ForC.{Refusing}
 
 -- "every call takes every input and ends"

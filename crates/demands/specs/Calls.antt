@@ -7,12 +7,12 @@ use Rattle.casm.proofs.read.find_group.Statement as find-group
 use Rattle.casm.proofs.read.find_part.Statement as find-part
 use Rattle.casm.proofs.read.find_channel.Statement as find-channel
 use Rattle.casm.proofs.read.group_text.Statement as group-text
-use Rattle.filled.proofs.read_records.Statement as read-records
+use Rattle.read_filled.proofs.read_records.Statement as read-records
 use Rattle.casm.proofs.questions.who_plays.Statement as who-plays
 use Rattle.casm.proofs.questions.find_voice.Statement as find-voice
 use Rattle.casm.proofs.questions.voice_name.Statement as voice-name
 use Rattle.casm.proofs.questions.place_note.Statement as place-note
-use Rattle.written.proofs.write_group.Statement as write-group
+use Rattle.write_table.proofs.write_group.Statement as write-group
 use Rattle.casm.proofs.editing.edit_record.Statement as edit-record
 use Rattle.casm.proofs.field.set_field.Statement as set-field
 use Rattle.casm.proofs.field.set_in_place.Statement as set-in-place

@@ -7,39 +7,39 @@ use mathlib.Core.List.{List}
 use lib.ListN.{length, replicate}
 use Rattle.layout.specs.Screen.{fieldSet, changed}
 use Rattle.layout.specs.Promises.{CasmFound, BodyRead, GroupFound, PartFound, ChannelFound, VoiceFound, PlaysTold, NotePlaced, GroupWritten, RecordEdited, Salvaged}
-use Rattle.cross.specs.declared.row.Row.{Row}
-use Rattle.cross.specs.Rows.{recorded, rowOf}
-use Rattle.flat.specs.Flat.{lentRows, tableOf, RowsRead}
-use Rattle.export.specs.declared.answer.Answer.{Answer}
-use Rattle.export.specs.declared.answer.Count.{Count}
-use Rattle.export.specs.declared.answer.Length.{Length}
-use Rattle.export.specs.declared.answer.Section.{Section}
-use Rattle.export.specs.declared.answer.Holder.{Holder}
-use Rattle.export.specs.declared.answer.Bounds.{Bounds}
-use Rattle.export.specs.declared.answer.Position.{Position}
-use Rattle.export.specs.declared.answer.Span.{Span}
-use Rattle.export.specs.declared.answer.Players.{Players}
-use Rattle.export.specs.declared.answer.Note.{Note}
-use Rattle.export.specs.declared.answer.Edited.{Edited}
-use Rattle.export.specs.Crossing.{answered, counted, measured, located, named, standing, grouped, channelled, spanned, played, placed, editOf}
-use Rattle.export.proofs.reading.casm_find.Statement as casm-find
-use Rattle.export.proofs.reading.casm_body.Statement as casm-body
-use Rattle.export.proofs.reading.casm_part.Statement as casm-part
-use Rattle.export.proofs.reading.casm_group.Statement as casm-group
-use Rattle.export.proofs.reading.casm_channel.Statement as casm-channel
-use Rattle.export.proofs.reading.casm_salvage.Statement as casm-salvage
-use Rattle.export.proofs.asking.casm_plays.Statement as casm-plays
-use Rattle.export.proofs.asking.casm_voice.Statement as casm-voice
-use Rattle.export.proofs.asking.casm_place.Statement as casm-place
-use Rattle.export.proofs.changing.casm_edit.Statement as casm-edit
-use Rattle.export.proofs.changing.casm_field.Statement as casm-field
-use Rattle.export.proofs.tables.casm_write.Statement as casm-write
-use Rattle.export.proofs.tables.casm_records.Statement as casm-records
-use Rattle.refusals.specs.Given.{GivenUnder}
-use Rattle.refusals.specs.File.{FileRefused}
-use Rattle.refusals.specs.Body.{BodyRefused}
-use Rattle.refusals.specs.After.{GroupAsked, RecordsAsked, PartAsked, PlayersAsked, ChannelAsked, EditAsked}
-use Rattle.refusals.specs.Records.{PlaceRefused, WriteRefused, FieldRefused, SalvageRefused}
+use Rattle.c_row.specs.declared.row.Row.{Row}
+use Rattle.c_row.specs.Rows.{recorded, rowOf}
+use Rattle.c_flat.specs.Flat.{lentRows, tableOf, RowsRead}
+use Rattle.c_export.specs.declared.answer.Answer.{Answer}
+use Rattle.c_export.specs.declared.answer.Count.{Count}
+use Rattle.c_export.specs.declared.answer.Length.{Length}
+use Rattle.c_export.specs.declared.answer.Section.{Section}
+use Rattle.c_export.specs.declared.answer.Holder.{Holder}
+use Rattle.c_export.specs.declared.answer.Bounds.{Bounds}
+use Rattle.c_export.specs.declared.answer.Position.{Position}
+use Rattle.c_export.specs.declared.answer.Span.{Span}
+use Rattle.c_export.specs.declared.answer.Players.{Players}
+use Rattle.c_export.specs.declared.answer.Note.{Note}
+use Rattle.c_export.specs.declared.answer.Edited.{Edited}
+use Rattle.c_export.specs.Crossing.{answered, counted, measured, located, named, standing, grouped, channelled, spanned, played, placed, editOf}
+use Rattle.c_export.proofs.reading.casm_find.Statement as casm-find
+use Rattle.c_export.proofs.reading.casm_body.Statement as casm-body
+use Rattle.c_export.proofs.reading.casm_part.Statement as casm-part
+use Rattle.c_export.proofs.reading.casm_group.Statement as casm-group
+use Rattle.c_export.proofs.reading.casm_channel.Statement as casm-channel
+use Rattle.c_export.proofs.reading.casm_salvage.Statement as casm-salvage
+use Rattle.c_export.proofs.asking.casm_plays.Statement as casm-plays
+use Rattle.c_export.proofs.asking.casm_voice.Statement as casm-voice
+use Rattle.c_export.proofs.asking.casm_place.Statement as casm-place
+use Rattle.c_export.proofs.changing.casm_edit.Statement as casm-edit
+use Rattle.c_export.proofs.changing.casm_field.Statement as casm-field
+use Rattle.c_export.proofs.tables.casm_write.Statement as casm-write
+use Rattle.c_export.proofs.tables.casm_records.Statement as casm-records
+use Rattle.law_refusals.specs.Given.{GivenUnder}
+use Rattle.law_refusals.specs.File.{FileRefused}
+use Rattle.law_refusals.specs.Body.{BodyRefused}
+use Rattle.law_refusals.specs.After.{GroupAsked, RecordsAsked, PartAsked, PlayersAsked, ChannelAsked, EditAsked}
+use Rattle.law_refusals.specs.Records.{PlaceRefused, WriteRefused, FieldRefused, SalvageRefused}
 
 -- "every call takes every input and ends. Callers need check nothing first"
 pub record EveryCCallEnds (M : Type 1) : Type 2 where

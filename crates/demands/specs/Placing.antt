@@ -1,6 +1,6 @@
 -- Demand 2, note placement at the call, in both directions: "Otherwise shift is chord root minus source root, less 12 when the chord root is above the high key"; "Inside the limits this value is the answer; below, the
 -- smallest note above by octaves that reaches the low limit; above, the largest below by octaves that meets the high limit. The answer is silence exactly when no octave of it lies within both limits".
--- Its words (`Octave`, `Sounds`, `NoneWithin`) have a line each in the specs of `place`.
+-- Its words (`Octave`, `Sounds`, `NoneWithin`) have a line each in the specs of `ask_place`.
 use Prim.Native.Nat.{ℕ, _<_, _≤_}
 use mathlib.Core.Path.{_≡_}
 use mathlib.Core.Logic.{_⊎_, _↔_}
@@ -10,7 +10,7 @@ use Rattle.layout.specs.declared.record.Record.{Record}
 use Rattle.layout.specs.declared.answer.Placed.{Placed}
 use Rattle.layout.specs.Place.{effective, shift}
 use Rattle.layout.specs.Promises.{NotePlaced}
-use Rattle.place.specs.Octaves.{Sounds, NoneWithin}
+use Rattle.ask_place.specs.Octaves.{Sounds, NoneWithin}
 
 -- a record's effective table is bypass, "00 or 80"
 abbrev pub Bypassed : Record → Type 0

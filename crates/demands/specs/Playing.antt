@@ -11,8 +11,8 @@ use Rattle.layout.specs.Records.{blank, channelOf}
 use Rattle.layout.specs.Body.{groupNo}
 use Rattle.layout.specs.Plays.{bit, rootMask, chordMask}
 use Rattle.layout.specs.Promises.{PlaysTold}
-use Rattle.refusals.specs.Body.{Named}
-use Rattle.refusals.specs.After.{HasGroup}
+use Rattle.law_refusals.specs.Body.{Named}
+use Rattle.law_refusals.specs.After.{HasGroup}
 
 -- record number i of these plays: it is there, and its two bits are set
 pub record PlaysAt (rs : List Record) (root type i : ℕ) : Type 0 where

@@ -1,5 +1,5 @@
 -- Demand 1: "Each refusal carries its number and its place from document 01, is given only under the stated condition, and changes no byte of lent memory." Lent memory stands in LentMemory.
--- `GivenUnder` says more than "only": a number and place are given wherever their condition holds, so those of two refusals never hold at once. The conditions stand in the specs of `refusals`:
+-- `GivenUnder` says more than "only": a number and place are given wherever their condition holds, so those of two refusals never hold at once. The conditions stand in the specs of `law_refusals`:
 -- a case for each row of document 01's table, over positions in the lent bytes.
 -- "Every call takes every input and ends. Callers need check nothing first" stands in Calls.
 use Prim.Native.Nat.{ℕ}
@@ -21,13 +21,13 @@ use Rattle.layout.specs.declared.answer.Changed.{Changed}
 use Rattle.layout.specs.Lists.{All}
 use Rattle.layout.specs.Salvage.{Entry, salvage}
 use Rattle.layout.specs.Promises.{CasmFound, BodyRead, GroupFound, PartFound, ChannelFound, RecordsRead, VoiceFound, PlaysTold, NotePlaced, GroupWritten, RecordEdited, FieldSet, FieldSetInPlace, Salvaged}
-use Rattle.laws.specs.Salvage.{bytesOf}
-use Rattle.refusals.specs.Given.{GivenUnder}
-use Rattle.refusals.specs.File.{FileRefused}
-use Rattle.refusals.specs.Body.{BodyRefused}
-use Rattle.refusals.specs.After.{GroupAsked, RecordsAsked, PartAsked, PlayersAsked, ChannelAsked, EditAsked}
-use Rattle.refusals.specs.Records.{PlaceRefused, WriteRefused, FieldRefused, SalvageRefused}
-use Rattle.refusals.specs.Salvage.{EntryRefused}
+use Rattle.law_salvage.specs.Salvage.{bytesOf}
+use Rattle.law_refusals.specs.Given.{GivenUnder}
+use Rattle.law_refusals.specs.File.{FileRefused}
+use Rattle.law_refusals.specs.Body.{BodyRefused}
+use Rattle.law_refusals.specs.After.{GroupAsked, RecordsAsked, PartAsked, PlayersAsked, ChannelAsked, EditAsked}
+use Rattle.law_refusals.specs.Records.{PlaceRefused, WriteRefused, FieldRefused, SalvageRefused}
+use Rattle.law_refusals.specs.Salvage.{EntryRefused}
 
 -- ---- "each refusal carries its number and its place .., is given only under the stated condition"; call by call
 

@@ -1,5 +1,5 @@
 -- Demand 2, the round trips: "Reading accepted bytes and writing them gives those bytes; writing an allowed group and reading it gives that group", and so of an edit and of a field.
--- Its words (`Bytes`, `GroupRead`, `BodyAllowed`, `EditRead`, `WrittenBack`, `ReadBack` and the others) have a line each in the specs of `rounds`.
+-- Its words (`Bytes`, `GroupRead`, `BodyAllowed`, `EditRead`, `WrittenBack`, `ReadBack` and the others) have a line each in the specs of `law_rounds`.
 use Prim.Native.Nat.{ℕ, _≤_}
 use mathlib.Core.Path.{_≡_}
 use mathlib.Core.Logic.{_↔_}
@@ -20,8 +20,8 @@ use Rattle.layout.specs.Write.{groupBytes, Whole, Allowed, written}
 use Rattle.layout.specs.Edit.{edited}
 use Rattle.layout.specs.Screen.{fieldSet}
 use Rattle.layout.specs.Promises.{TextShown, RecordsRead, GroupWritten, RecordEdited, FieldSet, FieldSetInPlace}
-use Rattle.rounds.specs.Rounds.{Bytes, groupsOf, GroupRead, BodyAllowed, WrittenAs, EditRead}
-use Rattle.rounds.specs.Calls.{WholeTable, MayBeWritten, sizeOfGroup, WrittenBack, ReadBack, CtabChanged, FieldChanged}
+use Rattle.law_rounds.specs.Rounds.{Bytes, groupsOf, GroupRead, BodyAllowed, WrittenAs, EditRead}
+use Rattle.law_rounds.specs.Calls.{WholeTable, MayBeWritten, sizeOfGroup, WrittenBack, ReadBack, CtabChanged, FieldChanged}
 
 -- ---- one group
 

@@ -1,4 +1,4 @@
--- Demand 3, sentence by sentence. Its words (`GroupsBody`, `NoneCompleted`, `moved`, `Covers` and the others) have a line each in the specs of `laws`.
+-- Demand 3, sentence by sentence. Its words (`GroupsBody`, `NoneCompleted`, `moved`, `Covers` and the others) have a line each in the specs of `law_salvage`.
 use Prim.Native.Nat.{ℕ, _+_, _*_, _≤_}
 use mathlib.Core.Path.{_≡_}
 use mathlib.Core.Logic.{_↔_}
@@ -9,7 +9,7 @@ use Rattle.layout.specs.Lists.{All}
 use Rattle.layout.specs.Body.{bodyLimit}
 use Rattle.layout.specs.Salvage.{Entry, salvage}
 use Rattle.layout.specs.Promises.{Salvaged}
-use Rattle.laws.specs.Salvage.{Covers, bytesOf, ReadsAsOne, GroupsBody, NoneCompleted, groupsFrom, moved, movedByChange, Listed}
+use Rattle.law_salvage.specs.Salvage.{Covers, bytesOf, ReadsAsOne, GroupsBody, NoneCompleted, groupsFrom, moved, movedByChange, Listed}
 use Rattle.demands.specs.Examples.{M, N, entry}
 
 -- ---- "Take a section body of sound groups .. Put other bytes, of any number, in place of one group"

@@ -7,10 +7,10 @@ use mathlib.Core.List.{List}
 use Rattle.layout.specs.Lists.{All}
 use Rattle.layout.specs.Sdec.{soundText}
 use Rattle.layout.specs.Salvage.{Entry, salvage}
-use Rattle.laws.specs.Salvage.{bytesOf}
-use Rattle.refusals.specs.Text.{TextBroken}
-use Rattle.refusals.specs.Body.{GroupRefused, GroupStands}
-use Rattle.refusals.specs.Salvage.{EntryRefused}
+use Rattle.law_salvage.specs.Salvage.{bytesOf}
+use Rattle.law_refusals.specs.Text.{TextBroken}
+use Rattle.law_refusals.specs.Body.{GroupRefused, GroupStands}
+use Rattle.law_refusals.specs.Salvage.{EntryRefused}
 
 -- a text is sound exactly where it breaks no rule of row 8
 abbrev pub SoundTextExactly : Type 0

@@ -5,10 +5,10 @@ use mathlib.Core.List.{List, [], _∷_, _++_, map}
 use lib.ListN.{take, drop, take-append-drop}
 use Rattle.layout.specs.declared.record.SourceChannel.{SourceChannel}
 use Rattle.layout.specs.declared.answer.Played.{Played}
-use Rattle.cross.specs.Rows.{channel}
-use Rattle.export.specs.declared.answer.Players.{Players}
-use Rattle.export.specs.Crossing.{played}
-use Rattle.laws.specs.Determined.{Determines, DeterminesBoth}
+use Rattle.c_row.specs.Rows.{channel}
+use Rattle.c_export.specs.declared.answer.Players.{Players}
+use Rattle.c_export.specs.Crossing.{played}
+use Rattle.law_salvage.specs.Determined.{Determines, DeterminesBoth}
 
 -- ---- a promise about what an answer stands for
 

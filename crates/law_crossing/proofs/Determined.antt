@@ -1,4 +1,4 @@
--- No two results satisfy one promise, of the calls for C and of the lent forms by value: a theorem for each, over the very words of its contract. With those of `laws` it is every call that a caller can reach.
+-- No two results satisfy one promise, of the calls for C and of the lent forms by value: a theorem for each, over the very words of its contract. With those of `law_salvage` it is every call that a caller can reach.
 use Prim.Native.Nat.{ℕ}
 use mathlib.Core.Path.{_≡_, refl, sym, ap, _∙_}
 use mathlib.Core.List.{List}
@@ -15,24 +15,24 @@ use Rattle.layout.specs.declared.answer.Spanned.{Spanned}
 use Rattle.layout.specs.declared.answer.Placed.{Placed}
 use Rattle.layout.specs.Screen.{fieldSet, changed}
 use Rattle.layout.specs.Promises.{CasmFound, BodyRead, GroupFound, PartFound, ChannelFound, VoiceFound, PlaysTold, NotePlaced, RecordsRead, GroupWritten, RecordEdited, FieldSet, Salvaged}
-use Rattle.cross.specs.declared.row.Row.{Row}
-use Rattle.cross.specs.Rows.{recorded}
-use Rattle.flat.specs.Flat.{tableOf, RowsRead}
-use Rattle.export.specs.declared.answer.Answer.{Answer}
-use Rattle.export.specs.declared.answer.Count.{Count}
-use Rattle.export.specs.declared.answer.Length.{Length}
-use Rattle.export.specs.declared.answer.Section.{Section}
-use Rattle.export.specs.declared.answer.Holder.{Holder}
-use Rattle.export.specs.declared.answer.Bounds.{Bounds}
-use Rattle.export.specs.declared.answer.Position.{Position}
-use Rattle.export.specs.declared.answer.Span.{Span}
-use Rattle.export.specs.declared.answer.Players.{Players}
-use Rattle.export.specs.declared.answer.Note.{Note}
-use Rattle.export.specs.declared.answer.Edited.{Edited}
-use Rattle.export.specs.Crossing.{answered, counted, measured, located, named, grouped, channelled, spanned, played, placed, editOf}
-use Rattle.bridge.specs.declared.Filled.{Filled}
-use Rattle.laws.specs.Determined.{Determines, DeterminesBoth}
-use Rattle.laws.proofs.Determined as face
+use Rattle.c_row.specs.declared.row.Row.{Row}
+use Rattle.c_row.specs.Rows.{recorded}
+use Rattle.c_flat.specs.Flat.{tableOf, RowsRead}
+use Rattle.c_export.specs.declared.answer.Answer.{Answer}
+use Rattle.c_export.specs.declared.answer.Count.{Count}
+use Rattle.c_export.specs.declared.answer.Length.{Length}
+use Rattle.c_export.specs.declared.answer.Section.{Section}
+use Rattle.c_export.specs.declared.answer.Holder.{Holder}
+use Rattle.c_export.specs.declared.answer.Bounds.{Bounds}
+use Rattle.c_export.specs.declared.answer.Position.{Position}
+use Rattle.c_export.specs.declared.answer.Span.{Span}
+use Rattle.c_export.specs.declared.answer.Players.{Players}
+use Rattle.c_export.specs.declared.answer.Note.{Note}
+use Rattle.c_export.specs.declared.answer.Edited.{Edited}
+use Rattle.c_export.specs.Crossing.{answered, counted, measured, located, named, grouped, channelled, spanned, played, placed, editOf}
+use Rattle.casm_by_value.specs.declared.Filled.{Filled}
+use Rattle.law_salvage.specs.Determined.{Determines, DeterminesBoth}
+use Rattle.law_salvage.proofs.Determined as face
 use Rattle.law_crossing.proofs.Crossed.{crossing-determines, crossing-determines-both, players, players-back, by-parts}
 
 -- ---- what crosses, by the answer that it stands for

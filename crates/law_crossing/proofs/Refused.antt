@@ -1,4 +1,4 @@
--- What a refusal leaves, where a C call or a form by value says it in words of its own: channels as numbers, a record as a row, a flat table, a table in two parts. The rest are the laws of `refusals` themselves.
+-- What a refusal leaves, where a C call or a form by value says it in words of its own: channels as numbers, a record as a row, a flat table, a table in two parts. The rest are the laws of `law_refusals` themselves.
 use Prim.Native.Nat.{ℕ}
 use mathlib.Core.Path.{_≡_, refl, sym, ap, subst, _∙_}
 use mathlib.Core.List.{List, map, flatMap}
@@ -11,20 +11,20 @@ use Rattle.layout.specs.Answers.{Answer, numberOf, retold, lentAfter, countedAl
 use Rattle.layout.specs.Asked.{recordsRead}
 use Rattle.layout.specs.Screen.{fieldSet, changed}
 use Rattle.layout.specs.Promises.{RecordsRead, PlaysTold}
-use Rattle.cross.specs.declared.row.Row.{Row}
-use Rattle.cross.specs.Rows.{recorded, rowOf}
-use Rattle.flat.specs.Flat.{lentRows, rowBytes, RowsRead}
-use Rattle.export.specs.declared.answer.Players.{Players}
-use Rattle.export.specs.declared.answer.Edited.{Edited}
-use Rattle.export.specs.Crossing.{played, editOf}
-use Rattle.bridge.specs.declared.Filled.{Filled}
-use Rattle.refusals.specs.Given.{GivenUnder}
-use Rattle.refusals.specs.After.{RecordsAsked}
-use Rattle.refusals.specs.Records.{FieldRefused}
-use Rattle.refusals.proofs.Kept.{lent-kept, retold-number, records-kept}
-use Rattle.refusals.proofs.Nothing.{players-nothing, field-nothing}
-use Rattle.refusals.proofs.Calls.{records-given}
-use Rattle.refusals.proofs.Changes.{field-given}
+use Rattle.c_row.specs.declared.row.Row.{Row}
+use Rattle.c_row.specs.Rows.{recorded, rowOf}
+use Rattle.c_flat.specs.Flat.{lentRows, rowBytes, RowsRead}
+use Rattle.c_export.specs.declared.answer.Players.{Players}
+use Rattle.c_export.specs.declared.answer.Edited.{Edited}
+use Rattle.c_export.specs.Crossing.{played, editOf}
+use Rattle.casm_by_value.specs.declared.Filled.{Filled}
+use Rattle.law_refusals.specs.Given.{GivenUnder}
+use Rattle.law_refusals.specs.After.{RecordsAsked}
+use Rattle.law_refusals.specs.Records.{FieldRefused}
+use Rattle.law_refusals.proofs.Kept.{lent-kept, retold-number, records-kept}
+use Rattle.law_refusals.proofs.Nothing.{players-nothing, field-nothing}
+use Rattle.law_refusals.proofs.Calls.{records-given}
+use Rattle.law_refusals.proofs.Changes.{field-given}
 use Rattle.law_crossing.proofs.Crossed.{numbers-back, channel-number, by-parts}
 
 -- ---- casm_plays

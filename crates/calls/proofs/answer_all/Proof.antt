@@ -1,6 +1,6 @@
 -- The places stay sound from turn to turn; what falls is the count of turns.
-use Rattle.lines.specs.Reading.{Sound}
-use Rattle.script.specs.Printing.{Waits}
+use Rattle.script_lines.specs.Reading.{Sound}
+use Rattle.script_out.specs.Printing.{Waits}
 use borrow.Author.Needs.{needs}
 use Rattle.calls.proofs.answer_all.Statement.{statement}
 use Rattle.calls.proofs.answer_all.Tie as tie

@@ -1,5 +1,5 @@
 -- What is written is as much of the buffer as the text takes.
-use Rattle.listing.proofs.Texts.{used-counts}
+use Rattle.list_text.proofs.Texts.{used-counts}
 use borrow.Author.Needs.{needs}
 use Rattle.list.proofs.main.Statement.{statement}
 use Rattle.list.proofs.main.Tie as tie

@@ -1,0 +1,138 @@
+-- One law for each way out. A record with no bad byte has a table below 6, and note plus shift stays near.
+use mathlib.Core.Path.{_≡_, sym, _∙_, ap}
+use Prim.Native.Nat.{ℕ, _<_}
+use native.Mathlib.Omega.{arith}
+use lib.IntN.{ℤ, pos, _+ℤ_}
+use lib.Signed.{mag}
+use mir.Syntax.{w32}
+use mir.Val.{toZ, ofZ}
+use Rattle.layout.specs.Answers.{granted}
+use Rattle.layout.specs.Ranges.{ranges}
+use Rattle.layout.specs.Records.{bytesOf}
+use Rattle.layout.specs.Place.{heard, placed}
+use Rattle.layout.proofs.Outs.{highs}
+use Rattle.read_record.proofs.BadBytes.{in-its-range}
+use Rattle.ask_place.proofs.Signed.{fits, u8-reads, reads-back, mag-add}
+use Rattle.ask_place.proofs.Ways.{answers, placed-root, placed-note, placed-bad, placed-bypass, placed-fixed, placed-shifted}
+use borrow.Author.Needs.{needs}
+use Rattle.ask_place.proofs.place_note.Statement.{statement}
+use Rattle.ask_place.proofs.place_note.Tie as tie
+
+refusal-requires : tie.Need-refusal-requires
+refusal-requires c κs = search needs
+
+returns : tie.Need-returns
+returns c = c .refusal .ensures ∙ answers (placed-root _ _ _ (omega arith))
+
+refusal-requires-2 : tie.Need-refusal-requires-2
+refusal-requires-2 c κs = search needs
+
+returns-2 : tie.Need-returns-2
+returns-2 c = c .refusal2 .ensures ∙ answers (placed-note _ _ _ (omega arith) (omega arith))
+
+first-bad-requires : tie.Need-first-bad-requires
+first-bad-requires c κs = search needs
+
+refusal-requires-3 : tie.Need-refusal-requires-3
+refusal-requires-3 c κs = search needs
+
+returns-3 : tie.Need-returns-3
+returns-3 c =
+    let b = c .before .before in
+    c .refusal3 .ensures ∙ answers (placed-bad _ _ _ (omega arith) (omega arith) _ (b .first-bad .ensures) (c .before .if3 .taken))
+
+is-bypass-requires : tie.Need-is-bypass-requires
+unfolding bytesOf highs ranges
+is-bypass-requires c κs =
+    let b = c .before in
+    omega (arith, in-its-range (b .before .before .before .args .r) 21 (rw (← b .first-bad .ensures) (c .if3 .left)) (omega arith))
+
+cast-hear : tie.Need-cast-hear
+cast-hear c = search needs
+
+hear-requires : tie.Need-hear-requires
+hear-requires c κs = rw (u8-reads (c .before .before .before .before .before .before .args .note) (omega arith)) (omega arith)
+
+returns-4 : tie.Need-returns-4
+returns-4 c =
+    let p = c .before .before in
+    let b = p .before .before in
+    let a = b .before .before .before .args in
+    rw (u8-reads (a .note) (omega arith)) at (c .hear .ensures)
+    ∙ answers (placed-bypass (a .r) (a .root) (a .note) (omega arith) (omega arith) _ (b .first-bad .ensures) (p .before .if3 .left) (sym (p .is-bypass .ensures) ∙ c .before .if4 .taken))
+
+refusal-requires-4 : tie.Need-refusal-requires-4
+refusal-requires-4 c κs = search needs
+
+returns-5 : tie.Need-returns-5
+returns-5 c =
+    let f = c .before .before .before in
+    let p = f .before in
+    let b = p .before .before in
+    let a = b .before .before .before .args in
+    c .refusal4 .ensures
+    ∙ answers (placed-fixed (a .r) (a .root) (a .note) (omega arith) (omega arith) _ (b .first-bad .ensures) (p .before .if3 .left) (sym (p .is-bypass .ensures) ∙ f .if4 .left) (c .before .if5 .taken))
+
+shift-to-requires : tie.Need-shift-to-requires
+shift-to-requires c κs =
+    let f = c .before .before in
+    sym (f .before .is-bypass .ensures) ∙ f .if4 .left
+
+module _ (c : tie.After-shift-to) where
+  abbrev note : ℕ
+  note = c .before .before .before .before .before .before .before .before .before .args .note
+
+  near : mag (pos note +ℤ c .shift-to .result) < 4096
+  near = omega (arith, mag-add (pos note) (c .shift-to .result))
+
+  shift-reads : toZ w32 (ofZ w32 (c .shift-to .result)) ≡ c .shift-to .result
+  shift-reads = reads-back (c .shift-to .result) (omega arith)
+
+  note-reads : toZ w32 note ≡ pos note
+  note-reads = u8-reads note (omega arith)
+
+  value-reads : toZ w32 (ofZ w32 (pos note +ℤ c .shift-to .result)) ≡ pos note +ℤ c .shift-to .result
+  value-reads = reads-back (pos note +ℤ c .shift-to .result) (omega (arith, near))
+
+cast-hear-2 : tie.Need-cast-hear-2
+cast-hear-2 c = search needs
+
+add-hear : tie.Need-add-hear
+add-hear c = rw (note-reads c, shift-reads c) (fits (pos (note c) +ℤ c .shift-to .result) (omega (arith, near c)))
+
+hear-requires-2 : tie.Need-hear-requires-2
+hear-requires-2 c κs = rw (note-reads c, shift-reads c, value-reads c) (near c)
+
+returns-6 : tie.Need-returns-6
+returns-6 c =
+    let s = c .before in
+    let f = s .before .before .before in
+    let p = f .before in
+    let b = p .before .before in
+    let a = b .before .before .before .args in
+    rw (note-reads s, shift-reads s, value-reads s) at (c .hear2 .ensures)
+    ∙ (ap (λ (z : ℤ). placed (granted (heard (pos (a .note) +ℤ z) (a .r .low) (a .r .high)))) (s .shift-to .ensures .0)
+    ∙ answers (placed-shifted (a .r) (a .root) (a .note) (omega arith) (omega arith) _ (b .first-bad .ensures) (p .before .if3 .left) (sym (p .is-bypass .ensures) ∙ f .if4 .left) (s .before .if5 .left)))
+
+pub place-note-spec : {M : Type 1} → statement M
+place-note-spec =
+    tie.close
+    (tie.spec
+    refusal-requires
+    returns
+    refusal-requires-2
+    returns-2
+    first-bad-requires
+    refusal-requires-3
+    returns-3
+    is-bypass-requires
+    cast-hear
+    hear-requires
+    returns-4
+    refusal-requires-4
+    returns-5
+    shift-to-requires
+    cast-hear-2
+    add-hear
+    hear-requires-2
+    returns-6)

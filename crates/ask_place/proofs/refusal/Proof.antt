@@ -1,0 +1,12 @@
+-- By computation.
+use mathlib.Core.Path.{refl}
+use Rattle.layout.specs.Place.{placed}
+use Rattle.ask_place.proofs.refusal.Statement.{statement}
+use Rattle.ask_place.proofs.refusal.Tie as tie
+
+returns : tie.Need-returns
+unfolding placed
+returns c = refl
+
+pub refusal-spec : {M : Type 1} → statement M
+refusal-spec = tie.close (tie.spec returns)

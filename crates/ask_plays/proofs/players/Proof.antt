@@ -1,0 +1,85 @@
+-- The places hold those of the first i Ctabs that play; i goes up. The Ctabs are at most sixteen, so there is room for one more.
+use Prim.Native.Nat.{_-_, _≤_}
+use mathlib.Core.Path.{sym, _∙_}
+use native.Mathlib.Omega.{arith}
+use borrow.Author.Tests.{not-true, not-false}
+use borrow.Author.Needs.{needs}
+use Rattle.ask_plays.proofs.Filled.{Filled, filled-start, filled-room, filled-passed, filled-more, filled-end}
+use Rattle.ask_plays.proofs.players.Statement.{statement}
+use Rattle.ask_plays.proofs.players.Tie as tie
+
+abbrev Inv-loop : tie.InvT-loop
+Inv-loop s p n root kind channels₀ count₀ i₀ channels count i = (i ≤ n) × Filled s p root kind i count channels
+
+abbrev μ-loop : tie.MeasureT-loop
+μ-loop s p n root kind channels₀ count₀ i₀ channels count i = n - i
+
+loop-holds : tie.Need-loop-holds Inv-loop μ-loop
+loop-holds c = (search needs, filled-start _ _ _ _)
+
+mul-at : tie.Need-mul-at Inv-loop μ-loop
+mul-at c = search needs
+
+add-at : tie.Need-add-at Inv-loop μ-loop
+add-at c = search needs
+
+add-at-2 : tie.Need-add-at-2 Inv-loop μ-loop
+add-at-2 c = search needs
+
+add-i : tie.Need-add-i Inv-loop μ-loop
+add-i c = search needs
+
+is-playing-requires : tie.Need-is-playing-requires Inv-loop μ-loop
+is-playing-requires c κs = (omega arith, c .before .before .before .pre .1 .1)
+
+loop-less : tie.Need-loop-less Inv-loop μ-loop
+loop-less c = search needs
+
+loop-again : tie.Need-loop-again Inv-loop μ-loop
+loop-again c =
+    let l = c .before .before .before .loop in
+    (omega arith, filled-passed _ _ _ _ _ _ _ (l .inv .1) (sym (c .before .is-playing .ensures) ∙ not-true _ (c .if1 .taken)))
+
+shared-slice-read-t16 : tie.Need-shared-slice-read-t16 Inv-loop μ-loop
+shared-slice-read-t16 c = search needs
+
+array-set-from-channels : tie.Need-array-set-from-channels Inv-loop μ-loop
+array-set-from-channels c = filled-room _ _ _ _ _ _ _ (c .before .before .before .before .loop .inv .1) (omega arith)
+
+add-count : tie.Need-add-count Inv-loop μ-loop
+add-count c =
+    let l = c .before .before .before .before .loop in
+    let room = filled-room _ _ _ _ _ _ _ (l .inv .1) (omega arith) in
+    omega (arith, room)
+
+loop-less-2 : tie.Need-loop-less-2 Inv-loop μ-loop
+loop-less-2 c = search needs
+
+loop-again-2 : tie.Need-loop-again-2 Inv-loop μ-loop
+loop-again-2 c =
+    let l = c .before .before .before .before .loop in
+    (omega arith, filled-more _ _ _ _ _ _ _ (l .inv .1) (omega arith) (sym (c .before .before .is-playing .ensures) ∙ not-false _ (c .before .if1 .left)))
+
+returns : tie.Need-returns Inv-loop μ-loop
+returns c = filled-end _ _ _ _ _ _ _ _ (c .before .loop .inv .1) (omega arith)
+
+pub players-spec : {M : Type 1} → statement M
+players-spec =
+    tie.close
+    (tie.spec
+    Inv-loop
+    μ-loop
+    loop-holds
+    mul-at
+    add-at
+    add-at-2
+    add-i
+    is-playing-requires
+    loop-less
+    loop-again
+    shared-slice-read-t16
+    array-set-from-channels
+    add-count
+    loop-less-2
+    loop-again-2
+    returns)

@@ -1,0 +1,37 @@
+-- What the proofs of the calls share: the face's answer for what crossed, and as what crosses back.
+use Prim.Native.Nat.{ℕ}
+use mathlib.Core.Path.{_≡_, ap, subst, _∙_}
+use mathlib.Core.List.{List, map}
+use Rattle.layout.specs.declared.record.SourceChannel.{SourceChannel}
+use Rattle.layout.specs.declared.record.Record.{Record}
+use Rattle.layout.specs.declared.answer.Answered.{Answered}
+use Rattle.layout.specs.declared.answer.Played.{Played}
+use Rattle.layout.specs.declared.answer.Placed.{Placed}
+use Rattle.layout.specs.declared.answer.Changed.{Changed}
+use Rattle.layout.specs.Promises.{RecordEdited, NotePlaced}
+use Rattle.layout.specs.Screen.{fieldSet, changed}
+use Rattle.c_row.specs.declared.row.Row.{Row}
+use Rattle.c_row.specs.Rows.{channel, rowOf}
+use Rattle.c_export.specs.declared.answer.Edited.{Edited}
+use Rattle.c_export.specs.Crossing.{editOf}
+
+-- a record edited by the record that a row stands for
+pub edited-by : (before after : List ℕ) (group source : ℕ) (new row : Record) (r : Answered) → new ≡ row → RecordEdited before group source new r after → RecordEdited before group source row r after
+edited-by before after group source new row r e p = subst (λ (x : Record). RecordEdited before group source x r after) e p
+
+-- the answer of a field set, with the record that it holds as a row
+pub edit-told : (x y : Changed) (row : Row) → row ≡ rowOf (x .held) → x ≡ y → record { number = x .number; place = x .place; held = row } ≡ editOf y
+edit-told x y row e h = ap {B = Edited} (λ (w : Row). record { number = x .number; place = x .place; held = w }) e ∙ ap editOf h
+
+-- the answer of who plays, its channels as numbers
+pub players-told : (x y : Played) (numbers : List ℕ) → map channel numbers ≡ x .channels → x ≡ y
+    → record { number = x .number; place = x .place; count = x .count; channels = map channel numbers } ≡ y
+players-told x y numbers e h = ap {B = Played} (λ (cs : List SourceChannel). record { number = x .number; place = x .place; count = x .count; channels = cs }) e ∙ h
+
+-- a note placed by the record that a row stands for
+pub placed-by : (new row : Record) (root note : ℕ) (r : Placed) → new ≡ row → NotePlaced new root note r → NotePlaced row root note r
+placed-by new row root note r e p = subst (λ (x : Record). NotePlaced x root note r) e p
+
+-- one field byte of that record set
+pub changed-by : (new row : Record) (index value : ℕ) (x : Changed) → new ≡ row → x ≡ changed new (fieldSet new index value) → x ≡ changed row (fieldSet row index value)
+changed-by new row index value x e h = h ∙ ap (λ (y : Record). changed y (fieldSet y index value)) e

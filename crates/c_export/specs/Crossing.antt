@@ -1,0 +1,84 @@
+-- What crosses to C, as the answers of the layout: field by field the same, under the names of include/casm.h.
+use mathlib.Core.List.{map}
+use Rattle.c_row.specs.Rows.{channel, rowOf}
+use Rattle.layout.specs.declared.answer.Answered.{Answered}
+use Rattle.layout.specs.declared.answer.Counted.{Counted}
+use Rattle.layout.specs.declared.answer.Measured.{Measured}
+use Rattle.layout.specs.declared.answer.Located.{Located}
+use Rattle.layout.specs.declared.answer.Named.{Named}
+use Rattle.layout.specs.declared.answer.Standing.{Standing}
+use Rattle.layout.specs.declared.answer.Grouped.{Grouped}
+use Rattle.layout.specs.declared.answer.Channelled.{Channelled}
+use Rattle.layout.specs.declared.answer.Spanned.{Spanned}
+use Rattle.layout.specs.declared.answer.Played.{Played}
+use Rattle.layout.specs.declared.answer.Placed.{Placed}
+use Rattle.layout.specs.declared.answer.Changed.{Changed}
+use Rattle.c_export.specs.declared.answer.Answer.{Answer}
+use Rattle.c_export.specs.declared.answer.Count.{Count}
+use Rattle.c_export.specs.declared.answer.Length.{Length}
+use Rattle.c_export.specs.declared.answer.Section.{Section}
+use Rattle.c_export.specs.declared.answer.Holder.{Holder}
+use Rattle.c_export.specs.declared.answer.Bounds.{Bounds}
+use Rattle.c_export.specs.declared.answer.Position.{Position}
+use Rattle.c_export.specs.declared.answer.Span.{Span}
+use Rattle.c_export.specs.declared.answer.Players.{Players}
+use Rattle.c_export.specs.declared.answer.Note.{Note}
+use Rattle.c_export.specs.declared.answer.Edited.{Edited}
+
+-- accepted or refused
+abbrev pub answered : Answer → Answered
+answered r = record { number = r .number; place = r .place }
+
+-- a count
+abbrev pub counted : Count → Counted
+counted r = record { number = r .number; place = r .place; count = r .count }
+
+-- the length of what was written
+abbrev pub measured : Length → Measured
+measured r = record { number = r .number; place = r .place; length = r .length }
+
+-- the CASM section of a style file
+abbrev pub located : Section → Located
+located r = record { number = r .number; place = r .place; tag = r .tag; length = r .length }
+
+-- the number of a group
+abbrev pub named : Holder → Named
+named r = record { number = r .number; place = r .place; group = r .group }
+
+-- where a group and its parts stand
+abbrev pub standing : Bounds → Standing
+standing r =
+    record {
+      at = r .at;
+      size = r .size;
+      text = r .«text_at»;
+      length = r .«text_length»;
+      ctabs = r .«records_at»;
+      records = r .records;
+      cntts = r .«cntts_at»;
+      seconds = r .cntts;
+    }
+
+-- one group
+abbrev pub grouped : Bounds → Grouped
+grouped r = record { number = r .number; place = r .place; group = standing r }
+
+-- the record of a source channel
+abbrev pub channelled : Position → Channelled
+channelled r = record { number = r .number; place = r .place; row = r .«record»; at = r .at }
+
+-- a part of the lent bytes
+abbrev pub spanned : Span → Spanned
+spanned r = record { number = r .number; place = r .place; start = r .start; length = r .length }
+
+-- the source channels that play
+abbrev pub played : Players → Played
+played r = record { number = r .number; place = r .place; count = r .count; channels = map channel (r .channels) }
+
+-- the note, or silence
+abbrev pub placed : Note → Placed
+placed r = record { number = r .number; place = r .place; silent = r .silent; note = r .note }
+
+-- a record after one field byte of it was set
+abbrev pub editOf : Changed → Edited
+editOf c = record { number = c .number; place = c .place; held = rowOf (c .held) }

@@ -1,0 +1,102 @@
+// What crosses to C by value: the answers of the layout field by field, laid out as C lays them out (include/casm.h).
+
+use c_row::row::Row;
+
+// Accepted or refused.
+#[repr(C)]
+pub struct Answer {
+    pub number: u8,
+    pub place: usize,
+}
+
+// How many groups, records or entries.
+#[repr(C)]
+pub struct Count {
+    pub number: u8,
+    pub place: usize,
+    pub count: usize,
+}
+
+// How many bytes were written.
+#[repr(C)]
+pub struct Length {
+    pub number: u8,
+    pub place: usize,
+    pub length: usize,
+}
+
+// The CASM section of a style file.
+#[repr(C)]
+pub struct Section {
+    pub number: u8,
+    pub place: usize,
+    pub tag: usize,
+    pub length: usize,
+}
+
+// The number of the group that has a part.
+#[repr(C)]
+pub struct Holder {
+    pub number: u8,
+    pub place: usize,
+    pub group: usize,
+}
+
+// Where a group and its parts stand in the body.
+#[repr(C)]
+pub struct Bounds {
+    pub number: u8,
+    pub place: usize,
+    pub at: usize,
+    pub size: usize,
+    pub text_at: usize,
+    pub text_length: usize,
+    pub records_at: usize,
+    pub records: usize,
+    pub cntts_at: usize,
+    pub cntts: usize,
+}
+
+// The record of a source channel in a group: its number among the group's records, and the place of its byte 0 in the body.
+#[repr(C)]
+pub struct Position {
+    pub number: u8,
+    pub place: usize,
+    pub record: usize,
+    pub at: usize,
+}
+
+// A part of the lent bytes.
+#[repr(C)]
+pub struct Span {
+    pub number: u8,
+    pub place: usize,
+    pub start: usize,
+    pub length: usize,
+}
+
+// The source channels that play, in Ctab order; places past the count are 0.
+#[repr(C)]
+pub struct Players {
+    pub number: u8,
+    pub place: usize,
+    pub count: usize,
+    pub channels: [u8; 16],
+}
+
+// The note, or silence; under silence the note is 0.
+#[repr(C)]
+pub struct Note {
+    pub number: u8,
+    pub place: usize,
+    pub silent: bool,
+    pub note: u8,
+}
+
+// A record after one field byte of it was set; on refusal the record as it was.
+#[repr(C)]
+pub struct Edited {
+    pub number: u8,
+    pub place: usize,
+    pub held: Row,
+}

@@ -1,0 +1,42 @@
+// A group's records laid into a flat table, 28 bytes each. They are read one at a time: no table of them is made.
+ghost use mathlib.Core.Path.{_≡_};
+ghost use Prim.Native.Nat.{_≤_};
+ghost use mathlib.Core.List.{_++_};
+ghost use lib.ListN.{length, drop};
+ghost use Rattle.c_flat.specs.Flat.{rowBytes, RowsRead};
+use c_flat::row_count;
+use c_row::row::row_of;
+use layout::answer::Counted;
+use layout::record::Record;
+use layout::size::ROW;
+use read_table::counted;
+use read_table::plan_records;
+use read_table::record_at;
+
+// Writes a record's 28 bytes at the start of what is lent.
+fn put_row(out: &mut [u8], r: Record)
+    requires { ⌜ 28 ≤ length (now out) ⌝ }
+    ensures { λ _. ⌜ now (out .exit) ≡ rowBytes r ++ drop 28 (now (out .entry)) ⌝ }
+{
+    let row = row_of(r);
+    let b = row.bytes;
+    write_chunks::put::put_bytes(out, &b);
+    out[26] = row.has_cntt;
+    out[27] = row.cntt;
+}
+
+// Fills a lent flat table with the records of a group, up to their count, and answers how many there are; later bytes are kept.
+// All that can be refused is in the plan, whose count is then 0: nothing is laid.
+pub fn read_rows(s: &[u8], group: usize, flat: &mut [u8]) -> Counted
+    ensures { λ r. ⌜ RowsRead (now (s .entry)) group (now (flat .entry)) r (now (flat .exit)) ⌝ }
+{
+    let plan = plan_records(s, group, row_count(flat.len()));
+    let n = plan.count;
+    let mut i: usize = 0;
+    while i < n {
+        let at = ROW * i;
+        put_row(&mut flat[at..], record_at(s, plan, i));
+        i += 1;
+    }
+    counted(plan)
+}

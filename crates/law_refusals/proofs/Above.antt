@@ -1,0 +1,107 @@
+-- Every number of refusal is above 0.
+use Prim.Native.Nat.{ℕ, _<_}
+use mathlib.Core.List.{List}
+use native.Mathlib.Omega.{arith}
+use Rattle.layout.specs.declared.record.Record.{Record}
+use Rattle.law_refusals.specs.Heads.{HeadRefused, header-cut, other-tag, length-past}
+use Rattle.law_refusals.specs.File.{FileRefused, file-over, not-style, section-cut, section-past, tag-again, no-casm, casm-over}
+use Rattle.law_refusals.specs.Contents.{ContentsRefused, sdec-head, sdec-text, ctab-head, ctab-size, ctab-byte, ctab-again, cntt-head, cntt-size, cntt-channel, cntt-value, cntt-again, cntt-stray, cntt-order}
+use Rattle.law_refusals.specs.Body.{GroupRefused, group-head, group-empty, group-contents, BodyRefused, body-over, head-refused, too-many, group-refused, name-again}
+use Rattle.law_refusals.specs.After.{GroupAsked, of-body, no-group, RecordsAsked, of-group, no-room, PartAsked, part-of-body, no-part}
+use Rattle.law_refusals.specs.After.{PlayersAsked, players-of-body, root-over, type-over, no-players, ChannelAsked, channel-of-group, no-channel, EditAsked, edit-of-channel, other-source, new-byte}
+use Rattle.law_refusals.specs.Records.{PlaceRefused, root-out, note-out, record-byte, root-fixed, WriteRefused, count-over, text-broken, table-byte, table-again, buffer-short}
+use Rattle.law_refusals.specs.Records.{FieldRefused, index-out, value-out, SalvageRefused, list-over, list-short}
+
+-- a condition holds of numbers above 0 alone
+abbrev pub Above : (ℕ → ℕ → Type 0) → Type 0
+Above P = (number place : ℕ) → P number place → 0 < number
+
+pub file-above : (file : List ℕ) → Above (FileRefused file)
+file-above file _ _ (file-over a) = omega arith
+file-above file _ _ (not-style a b) = omega arith
+file-above file _ _ (section-cut a b c d) = omega arith
+file-above file _ _ (section-past a b c d) = omega arith
+file-above file _ _ (tag-again a b c d e f) = omega arith
+file-above file _ _ (no-casm a b c d) = omega arith
+file-above file _ _ (casm-over a b c d e f g) = omega arith
+
+pub head-above : (s : List ℕ) (at : ℕ) (tag : List ℕ) (number : ℕ) → HeadRefused s at tag number → 0 < number
+head-above s at tag _ (header-cut a) = omega arith
+head-above s at tag _ (other-tag a b) = omega arith
+head-above s at tag _ (length-past a b c) = omega arith
+
+contents-above : (c : List ℕ) → Above (ContentsRefused c)
+contents-above c _ _ (sdec-head number h) = head-above c _ _ number h
+contents-above c _ _ (sdec-text a b) = omega arith
+contents-above c _ _ (ctab-head n number a b d h) = head-above c _ _ number h
+contents-above c _ _ (ctab-size n a b d) = omega arith
+contents-above c _ _ (ctab-byte n k a b d e) = omega arith
+contents-above c _ _ (ctab-again i n a b d e) = omega arith
+contents-above c _ _ (cntt-head n j number a b h) = head-above c _ _ number h
+contents-above c _ _ (cntt-size n j a b d) = omega arith
+contents-above c _ _ (cntt-channel n j a b d e) = omega arith
+contents-above c _ _ (cntt-value n j a b d e f) = omega arith
+contents-above c _ _ (cntt-again i n j a b d e) = omega arith
+contents-above c _ _ (cntt-stray n j a b d e) = omega arith
+contents-above c _ _ (cntt-order n j x y a b d e f g h i) = omega arith
+
+pub group-above : (p : List ℕ) → Above (GroupRefused p)
+group-above p _ _ (group-head number h) = head-above p _ _ number h
+group-above p _ _ (group-empty a b) = omega arith
+group-above p _ _ (group-contents number place a b h) = contents-above _ number place h
+
+pub body-above : (s : List ℕ) → Above (BodyRefused s)
+body-above s _ _ (body-over a) = omega arith
+body-above s _ _ (head-refused k number a b d h) = head-above s _ _ number h
+body-above s _ _ (too-many a b) = omega arith
+body-above s _ _ (group-refused k number place a b d h) = group-above _ number place h
+body-above s _ _ (name-again i k name a b d e f g) = omega arith
+
+module _ (s : List ℕ) where
+  pub group-asked-above : (g : ℕ) → Above (GroupAsked s g)
+  group-asked-above g _ _ (of-body number place h) = body-above s number place h
+  group-asked-above g _ _ (no-group n a b) = omega arith
+
+  pub records-asked-above : (g room : ℕ) → Above (RecordsAsked s g room)
+  records-asked-above g room _ _ (of-group number place h) = group-asked-above g number place h
+  records-asked-above g room _ _ (no-room a b) = omega arith
+
+  pub part-asked-above : (name : List ℕ) → Above (PartAsked s name)
+  part-asked-above name _ _ (part-of-body number place h) = body-above s number place h
+  part-asked-above name _ _ (no-part n a b) = omega arith
+
+  pub players-asked-above : (name : List ℕ) (root type : ℕ) → Above (PlayersAsked s name root type)
+  players-asked-above name root type _ _ (players-of-body number place h) = body-above s number place h
+  players-asked-above name root type _ _ (root-over n a b) = omega arith
+  players-asked-above name root type _ _ (type-over n a b) = omega arith
+  players-asked-above name root type _ _ (no-players n a b c d) = omega arith
+
+  pub channel-asked-above : (g channel : ℕ) → Above (ChannelAsked s g channel)
+  channel-asked-above g channel _ _ (channel-of-group number place h) = group-asked-above g number place h
+  channel-asked-above g channel _ _ (no-channel a b) = omega arith
+
+  pub edit-asked-above : (g channel : ℕ) (new : Record) → Above (EditAsked s g channel new)
+  edit-asked-above g channel new _ _ (edit-of-channel number place h) = channel-asked-above g channel number place h
+  edit-asked-above g channel new _ _ (other-source a b) = omega arith
+  edit-asked-above g channel new _ _ (new-byte k a b c) = omega arith
+
+pub place-above : (r : Record) (root note : ℕ) → Above (PlaceRefused r root note)
+place-above r root note _ _ (root-out a) = omega arith
+place-above r root note _ _ (note-out a) = omega arith
+place-above r root note _ _ (record-byte k a b c) = omega arith
+place-above r root note _ _ (root-fixed a b c d e f) = omega arith
+
+pub write-above : (text : List ℕ) (table : List Record) (count room : ℕ) → Above (WriteRefused text table count room)
+write-above text table count room _ _ (count-over a) = omega arith
+write-above text table count room _ _ (text-broken a b) = omega arith
+write-above text table count room _ _ (table-byte i k a b c d e) = omega arith
+write-above text table count room _ _ (table-again j i a b c d e f g) = omega arith
+write-above text table count room _ _ (buffer-short a b c d) = omega arith
+
+pub field-above : (index value : ℕ) → Above (FieldRefused index value)
+field-above index value _ _ (index-out a) = omega arith
+field-above index value _ _ (value-out a b) = omega arith
+
+pub salvage-above : (s : List ℕ) (room : ℕ) → Above (SalvageRefused s room)
+salvage-above s room _ _ (list-over a) = omega arith
+salvage-above s room _ _ (list-short a b) = omega arith

@@ -1,0 +1,61 @@
+-- The calls that write, edit and list: what is told of the answer is told of the number and place that the caller has in hand.
+use Prim.Native.Nat.{ℕ}
+use mathlib.Core.Path.{ap}
+use mathlib.Core.List.{List}
+use lib.ListN.{length}
+use Rattle.layout.specs.declared.record.Record.{Record}
+use Rattle.layout.specs.declared.answer.Answered.{Answered}
+use Rattle.layout.specs.declared.answer.Counted.{Counted}
+use Rattle.layout.specs.declared.answer.Measured.{Measured}
+use Rattle.layout.specs.declared.answer.Changed.{Changed}
+use Rattle.layout.specs.Answers.{answered, countedAll, measured}
+use Rattle.layout.specs.Salvage.{salvaged}
+use Rattle.layout.specs.Write.{written}
+use Rattle.layout.specs.Edit.{edited}
+use Rattle.layout.specs.Screen.{fieldSet, changed}
+use Rattle.layout.specs.Promises.{GroupWritten, RecordEdited, FieldSet, FieldSetInPlace, Salvaged}
+use Rattle.law_refusals.specs.Given.{GivenUnder}
+use Rattle.law_refusals.specs.After.{EditAsked}
+use Rattle.law_refusals.specs.Records.{WriteRefused, FieldRefused, SalvageRefused}
+use Rattle.law_refusals.proofs.Above.{edit-asked-above}
+use Rattle.law_refusals.proofs.Above.{write-above, field-above, salvage-above}
+use Rattle.law_refusals.proofs.Asked.{edit-asked}
+use Rattle.law_refusals.proofs.Records.{field-told, salvage-told}
+use Rattle.law_refusals.proofs.Written.{write-told}
+use Rattle.law_refusals.proofs.AskedExact.{edit-answers}
+use Rattle.law_refusals.proofs.RecordsExact.{write-answers, field-answers, salvage-answers}
+use Rattle.law_refusals.proofs.Given.{given}
+
+pub write-given : (text : List ℕ) (table : List Record) (count : ℕ) (before : List ℕ) (r : Measured) (after : List ℕ) → GroupWritten text table count before r after
+    → GivenUnder (WriteRefused text table count (length before)) (r .number) (r .place)
+unfolding measured
+write-given text table count before r after p =
+    let room : ℕ = length before in
+    given (WriteRefused text table count room) (write-above text table count room) (written text table count room) (write-told text table count room) (write-answers text table count room) (r .number) (r .place)
+    (ap (λ (x : Measured). x .number) (p .answer)) (ap (λ (x : Measured). x .place) (p .answer))
+
+pub edit-given : (before : List ℕ) (g channel : ℕ) (new : Record) (r : Answered) (after : List ℕ) → RecordEdited before g channel new r after
+    → GivenUnder (EditAsked before g channel new) (r .number) (r .place)
+unfolding answered
+edit-given before g channel new r after p =
+    given (EditAsked before g channel new) (edit-asked-above before g channel new) (edited before g channel new) (edit-asked before g channel new) (edit-answers before g channel new) (r .number) (r .place)
+    (ap (λ (x : Answered). x .number) (p .answer)) (ap (λ (x : Answered). x .place) (p .answer))
+
+pub field-given : (old : Record) (index value : ℕ) (r : Changed) → FieldSet old index value r → GivenUnder (FieldRefused index value) (r .number) (r .place)
+unfolding changed
+field-given old index value r p =
+    given (FieldRefused index value) (field-above index value) (fieldSet old index value) (field-told old index value) (field-answers old index value) (r .number) (r .place)
+    (ap (λ (x : Changed). x .number) p) (ap (λ (x : Changed). x .place) p)
+
+pub field-in-place-given : (before : Record) (index value : ℕ) (r : Answered) (after : Record) → FieldSetInPlace before index value r after
+    → GivenUnder (FieldRefused index value) (r .number) (r .place)
+unfolding answered
+field-in-place-given before index value r after p =
+    given (FieldRefused index value) (field-above index value) (fieldSet before index value) (field-told before index value) (field-answers before index value) (r .number) (r .place)
+    (ap (λ (x : Answered). x .number) (p .answer)) (ap (λ (x : Answered). x .place) (p .answer))
+
+pub salvage-given : (s before : List ℕ) (r : Counted) (after : List ℕ) → Salvaged s before r after → GivenUnder (SalvageRefused s (length before)) (r .number) (r .place)
+unfolding countedAll
+salvage-given s before r after p =
+    given (SalvageRefused s (length before)) (salvage-above s (length before)) (salvaged s (length before)) (salvage-told s (length before)) (salvage-answers s (length before)) (r .number) (r .place)
+    (ap (λ (x : Counted). x .number) (p .answer)) (ap (λ (x : Counted). x .place) (p .answer))

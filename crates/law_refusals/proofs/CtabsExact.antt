@@ -1,0 +1,121 @@
+-- The Ctabs before go on, so the run of Ctabs comes to the child that does not.
+use Prim.Native.Nat.{ℕ, zero, suc, _+_, _≤_, _<_}
+use mathlib.Core.Path.{_≡_, refl, sym, ap, _∙_}
+use mathlib.Core.Bool.{true, false}
+use mathlib.Core.List.{List}
+use native.Mathlib.Omega.{arith}
+use native.Mathlib.Decide.{decLt}
+use lib.ListN.{length, getD}
+use borrow.Author.Tests.{lt-ltb, le-ltb, ne-eqb}
+use Rattle.layout.specs.declared.turn.Turn.the-variants.{Refused, More, Done}
+use Rattle.layout.specs.declared.turn.Run.the-variants.{Stopped, Ended}
+use Rattle.layout.specs.Bytes.{word, tagAt, Ctab, Cntt}
+use Rattle.layout.specs.Ranges.{firstEdition, ranges, outOf, firstOut}
+use Rattle.layout.specs.Group.{ctabsOver, ctabChannel, ctabOf, ctabAt, ctabTurn, ctabsOf}
+use Rattle.layout.proofs.Scans.{first-none}
+use Rattle.layout.proofs.Ctabs.{over-end, over-cut, over-tag}
+use Rattle.law_refusals.specs.Heads.{HeadRefused, Headed}
+use Rattle.law_refusals.specs.Contents.{FirstSuch, ctabTag, ctabSource, CtabInRange, CtabsBefore}
+use Rattle.law_refusals.proofs.Reached.{run-reaches, run-comes-to, tagged-so, tagged-not, head-is, head-none, such-first}
+use Rattle.layout.proofs.Seen.{ctab-seen, ctab-unseen}
+
+-- a Ctab is no Cntt
+apart-tags : (t : List ℕ) → t ≡ Ctab → t ≡ Cntt → ⊥
+apart-tags t e f = let z : _≡_ {A = ℕ} 0x74 0x6E = ap (λ l. getD l 1 0) (sym e ∙ f) in omega arith
+
+-- whether a channel stands among n Ctabs
+module _ (c : List ℕ) (p n channel : ℕ) where
+  pub ctab-has : (i : ℕ) → i < n → ctabChannel firstEdition c p i ≡ channel → ctabOf firstEdition c p n channel < n
+  ctab-has i l e = go (decLt (ctabOf firstEdition c p n channel) n)
+    where
+      go : Dec (ctabOf firstEdition c p n channel < n) → ctabOf firstEdition c p n channel < n
+      go (yes a) = a
+      go (no a) = absurd (ctab-unseen c p n channel (omega arith) i l e)
+
+  pub ctab-has-not : ((i : ℕ) → i < n → ctabChannel firstEdition c p i ≡ channel → ⊥) → n ≤ ctabOf firstEdition c p n channel
+  ctab-has-not f = go (decLt (ctabOf firstEdition c p n channel) n)
+    where
+      go : Dec (ctabOf firstEdition c p n channel < n) → n ≤ ctabOf firstEdition c p n channel
+      go (yes a) = absurd (f (ctabOf firstEdition c p n channel) a (ctab-seen c p n channel a))
+      go (no a) = omega arith
+
+module _ (c : List ℕ) where
+  -- a child that is not the end, and no Cntt
+  not-over : (at : ℕ) → at < length c → (at + 8 ≤ length c → tagAt c at ≡ Cntt → ⊥) → ctabsOver c at ≡ false
+  not-over at l f = go (decLt (length c) (at + 8))
+    where
+      go : Dec (length c < at + 8) → ctabsOver c at ≡ false
+      go (yes a) = over-cut c at (λ e. absurd (omega arith)) a
+      go (no a) = let h : at + 8 ≤ length c = omega arith in over-tag c at (λ e. absurd (omega arith)) h ∙ tagged-not c at Cntt (f h)
+
+  ctab-not-over : (at : ℕ) → Headed c at Ctab → ctabsOver c at ≡ false
+  ctab-not-over at h = let w = h .within in not-over at (omega arith) (λ l. apart-tags (tagAt c at) (h .tagged))
+
+  -- where no Ctab follows
+  over-so : (at : ℕ) → at ≤ length c → (at < length c → (at + 8 ≤ length c) × (tagAt c at ≡ Cntt)) → ctabsOver c at ≡ true
+  over-so at l f = go (decLt at (length c))
+    where
+      go : Dec (at < length c) → ctabsOver c at ≡ true
+      go (yes a) = let h = f a in over-tag c at (λ e. absurd (omega arith)) (h .0) ∙ tagged-so c at Cntt (h .1)
+      go (no a) = over-end c at (omega arith)
+
+  module _ (n : ℕ) where
+    abbrev at : ℕ
+    at = ctabTag c n
+
+    abbrev p : ℕ
+    p = 8 + word c 4
+
+    pub turn-head : (number : ℕ) → (number ≡ 0 → ⊥) → at < length c → (at + 8 ≤ length c → tagAt c at ≡ Cntt → ⊥) → HeadRefused c at Ctab number
+        → ctabTurn firstEdition c p n ≡ Refused number at
+    unfolding ctabTurn ctabAt
+    turn-head number z l f h = rw (not-over at l f, head-is c at Ctab number h, ne-eqb number 0 z)
+
+    module _ (h : Headed c at Ctab) where
+      pub turn-size : (word c (at + 4) ≡ 27 → ⊥) → ctabTurn firstEdition c p n ≡ Refused 7 at
+      unfolding ctabTurn ctabAt
+      turn-size f = rw (ctab-not-over at h, head-none c at Ctab h, ne-eqb (word c (at + 4)) 27 f)
+
+      pub turn-byte : (k : ℕ) → word c (at + 4) ≡ 27 → FirstSuch (λ i. outOf ranges i (getD c (at + 8 + i) 0)) 27 k → ctabTurn firstEdition c p n ≡ Refused 9 (at + 8 + k)
+      unfolding ctabTurn ctabAt firstOut
+      turn-byte k size f =
+          rw (ctab-not-over at h, head-none c at Ctab h, size, such-first (λ i. outOf ranges i (getD c (at + 8 + i) 0)) 27 k f, lt-ltb k 27 (f .within))
+
+    module _ (w : CtabInRange c n) where
+      all-in : firstOut ranges c (at + 8) 27 ≡ 27
+      unfolding firstOut
+      all-in = first-none (λ i. outOf ranges i (getD c (at + 8 + i) 0)) 27 (w .inside)
+
+      pub turn-again : (i : ℕ) → i < n → ctabSource c i ≡ ctabSource c n → ctabTurn firstEdition c p n ≡ Refused 10 at
+      unfolding ctabTurn ctabAt ctabChannel
+      turn-again i l e =
+          rw (ctab-not-over at (w .head), head-none c at Ctab (w .head), w .size, all-in, lt-ltb (ctabOf firstEdition c p n (getD c (at + 8) 0)) n (ctab-has c p n (getD c (at + 8) 0) i l e))
+
+      pub turn-more : ((i : ℕ) → i < n → ctabSource c i ≡ ctabSource c n → ⊥) → ctabTurn firstEdition c p n ≡ More
+      unfolding ctabTurn ctabAt ctabChannel
+      turn-more f =
+          rw (ctab-not-over at (w .head), head-none c at Ctab (w .head), w .size, all-in, le-ltb (ctabOf firstEdition c p n (getD c (at + 8) 0)) n (ctab-has-not c p n (getD c (at + 8) 0) f))
+
+    turn-over : at ≤ length c → (at < length c → (at + 8 ≤ length c) × (tagAt c at ≡ Cntt)) → ctabTurn firstEdition c p n ≡ Done
+    unfolding ctabTurn ctabAt
+    turn-over l f = rw (over-so at l f)
+
+  module _ (n : ℕ) (b : CtabsBefore c n) where
+    before-more : (i : ℕ) → i < n → ctabTurn firstEdition c (8 + word c 4) i ≡ More
+    before-more i l = let h = b .ctabs i l in turn-more i (h .ctab) (h .apart)
+
+    -- the Ctabs before stand within the contents
+    pub ctabs-within : ctabTag c n ≤ length c
+    ctabs-within = go n refl
+      where
+        go : (k : ℕ) → k ≡ n → ctabTag c k ≤ length c
+        go zero e = omega (arith, b .sdec .within)
+        go (suc k) e = let h = b .ctabs k (omega arith) .ctab in omega (arith, h .head .within, h .size)
+
+    pub ctabs-stop : (number place : ℕ) → ctabTurn firstEdition c (8 + word c 4) n ≡ Refused number place → ctabsOf c (8 + word c 4) ≡ Stopped number place
+    unfolding ctabsOf
+    ctabs-stop number place t = run-reaches (ctabTurn firstEdition c (8 + word c 4)) (length c + 1) n number place (omega (arith, ctabs-within)) before-more t
+
+    pub ctabs-over : (ctabTag c n < length c → (ctabTag c n + 8 ≤ length c) × (tagAt c (ctabTag c n) ≡ Cntt)) → ctabsOf c (8 + word c 4) ≡ Ended n
+    unfolding ctabsOf
+    ctabs-over f = run-comes-to (ctabTurn firstEdition c (8 + word c 4)) (length c + 1) n (omega (arith, ctabs-within)) before-more (turn-over n ctabs-within f)

@@ -1,0 +1,146 @@
+-- A refused writing: the records before are in range and of source channels of their own, so each way out of a turn has the condition of its row.
+use Prim.Native.Nat.{ℕ, _+_, _*_, _≤_, _<_}
+use mathlib.Core.Path.{_≡_, refl}
+use mathlib.Core.Bool.{Bool, true, false, cond, not}
+use mathlib.Core.List.{List}
+use native.Mathlib.Omega.{arith}
+use native.Mathlib.Decide.{decLt}
+use lib.Dec.{ltb, eqb}
+use lib.ListN.{length, getD, take}
+use lib.Seq.{length-take-le, getD-take}
+use borrow.Author.Tests.{ltb-true, ltb-false, eqb-true, eqb-false, not-true, not-false}
+use Rattle.layout.specs.declared.turn.Turn.the-variants.{Refused, More, Done}
+use Rattle.layout.specs.declared.turn.Run.the-variants.{Ended}
+use Rattle.layout.specs.declared.record.Record.{Record}
+use Rattle.layout.specs.Ranges.{firstEdition}
+use Rattle.layout.specs.Records.{blank, channelOf, firstBad}
+use Rattle.layout.specs.Sdec.{soundText}
+use Rattle.layout.specs.Write.{groupBytes, recordOn, recordTurn, recordsRun, groupFrom, written}
+use Rattle.layout.proofs.Scans.{first-passed, first-stands}
+use Rattle.layout.proofs.Runs.{run-ended}
+use Rattle.law_refusals.specs.Records.{FirstBadByte, InRange, RecordsBefore, WriteRefused, count-over, text-broken, table-byte, table-again, buffer-short}
+use Rattle.law_refusals.proofs.Told.{TurnTold, RunTold, AnswerTold, if-told, run-told, after-told}
+use Rattle.law_refusals.proofs.Texts.{text-told}
+use Rattle.law_refusals.proofs.Records.{bad-byte, in-range}
+
+-- ---- the records before
+
+module _ (rs : List Record) where
+  -- the first of i records that has a source channel
+  pub record-seen : (i channel : ℕ) → recordOn firstEdition rs i channel < i → channelOf (getD rs (recordOn firstEdition rs i channel) blank) ≡ channel
+  unfolding recordOn
+  record-seen i channel h = eqb-true _ _ (first-stands (λ j. eqb (channelOf (getD rs j blank)) channel) i h)
+
+  pub record-unseen : (i channel : ℕ) → i ≤ recordOn firstEdition rs i channel → (j : ℕ) → j < i → channelOf (getD rs j blank) ≡ channel → ⊥
+  unfolding recordOn
+  record-unseen i channel h j l = eqb-false _ _ (first-passed (λ j. eqb (channelOf (getD rs j blank)) channel) i j (omega arith))
+
+  start : RecordsBefore rs 0
+  start = record { inside = λ i h. absurd (omega arith); apart = λ i j h k. absurd (omega arith) }
+
+  turn-more : (i : ℕ) → recordTurn firstEdition rs i ≡ More
+      → (26 ≤ firstBad firstEdition (getD rs i blank)) × (i ≤ recordOn firstEdition rs i (channelOf (getD rs i blank)))
+  unfolding recordTurn
+  turn-more i m = go (ltb (firstBad firstEdition (getD rs i blank)) 26) (ltb (recordOn firstEdition rs i (channelOf (getD rs i blank))) i) refl refl m
+    where
+      go : (a b : Bool) → ltb (firstBad firstEdition (getD rs i blank)) 26 ≡ a → ltb (recordOn firstEdition rs i (channelOf (getD rs i blank))) i ≡ b
+          → cond a (Refused 9 (27 * i + firstBad firstEdition (getD rs i blank))) (cond b (Refused 10 (27 * i)) More) ≡ More
+          → (26 ≤ firstBad firstEdition (getD rs i blank)) × (i ≤ recordOn firstEdition rs i (channelOf (getD rs i blank)))
+      go true b e f q = absurd (let z : _≡_ {A = ℕ} 0 1 = cc in omega arith)
+      go false true e f q = absurd (let z : _≡_ {A = ℕ} 0 1 = cc in omega arith)
+      go false false e f q = (ltb-false _ _ e, ltb-false _ _ f)
+
+  not-done : (i : ℕ) → recordTurn firstEdition rs i ≡ Done → ⊥
+  unfolding recordTurn
+  not-done i m = go (ltb (firstBad firstEdition (getD rs i blank)) 26) (ltb (recordOn firstEdition rs i (channelOf (getD rs i blank))) i) m
+    where
+      go : (a b : Bool) → cond a (Refused 9 (27 * i + firstBad firstEdition (getD rs i blank))) (cond b (Refused 10 (27 * i)) More) ≡ Done → ⊥
+      go true b q = let z : _≡_ {A = ℕ} 0 1 = cc in omega arith
+      go false true q = let z : _≡_ {A = ℕ} 0 1 = cc in omega arith
+      go false false q = let z : _≡_ {A = ℕ} 0 1 = cc in omega arith
+
+  next : (i : ℕ) → RecordsBefore rs i → recordTurn firstEdition rs i ≡ More → RecordsBefore rs (i + 1)
+  next i held m =
+      let more = turn-more i m in
+      record { inside = λ j l. inside j (decLt j i) (more .0) l; apart = λ a b h l. apart a b h (decLt b i) (more .1) l }
+    where
+      inside : (j : ℕ) → Dec (j < i) → 26 ≤ firstBad firstEdition (getD rs i blank) → j < i + 1 → InRange (getD rs j blank)
+      inside j (yes d) h l = held .inside j d
+      inside j (no d) h l = let q : j ≡ i = omega arith in rw q (in-range (getD rs i blank) h)
+
+      apart : (a b : ℕ) → a < b → Dec (b < i) → i ≤ recordOn firstEdition rs i (channelOf (getD rs i blank)) → b < i + 1
+          → channelOf (getD rs a blank) ≡ channelOf (getD rs b blank) → ⊥
+      apart a b h (yes d) f l = held .apart a b h d
+      apart a b h (no d) f l = let q : b ≡ i = omega arith in rw q (record-unseen i (channelOf (getD rs i blank)) f a (omega arith))
+
+-- ---- the lent table
+
+module _ (text : List ℕ) (table : List Record) (count room : ℕ) (few : count ≤ length table) (sound : soundText text ≡ true) where
+  -- the records that are written are those of the table
+  abbrev rs : List Record
+  rs = take count table
+
+  same-record : (i : ℕ) → i < count → getD rs i blank ≡ getD table i blank
+  same-record i l = getD-take count table i blank l
+
+  before : (i : ℕ) → i ≤ count → RecordsBefore rs i → RecordsBefore table i
+  before i l h =
+      record {
+        inside = λ j k. rw (same-record j (omega arith)) at (h .inside j k);
+        apart = λ a b m n. rw (same-record a (omega arith), same-record b (omega arith)) at (h .apart a b m n);
+      }
+
+  bad-there : (r t : Record) (k : ℕ) → r ≡ t → FirstBadByte r k → FirstBadByte t k
+  bad-there r t k e h = rw (← e) h
+
+  channel-there : (a b c d : Record) → a ≡ c → b ≡ d → channelOf a ≡ channelOf b → channelOf c ≡ channelOf d
+  channel-there a b c d e f h = rw (← e, ← f) h
+
+  turn-told : (i : ℕ) → i < count → RecordsBefore rs i → TurnTold (WriteRefused text table count room) (recordTurn firstEdition rs i)
+  unfolding recordTurn
+  turn-told i l held =
+      let r : Record = getD rs i blank in
+      let k : ℕ = firstBad firstEdition r in
+      let j : ℕ = recordOn firstEdition rs i (channelOf r) in
+      let known = before i (omega arith) held in
+      if-told (TurnTold (WriteRefused text table count room)) (ltb k 26) _ _
+      (λ e. table-byte i k l few sound known (bad-there r (getD table i blank) k (same-record i l) (bad-byte r (ltb-true _ _ e)))) (λ e.
+      if-told (TurnTold (WriteRefused text table count room)) (ltb j i) _ _
+      (λ f.
+      let m = ltb-true j i f in
+      let inside : InRange r = in-range r (ltb-false _ _ e) in
+      table-again j i m l few sound known (rw (same-record i l) at inside)
+      (channel-there (getD rs j blank) r (getD table j blank) (getD table i blank) (same-record j (omega arith)) (same-record i l) (record-seen rs i (channelOf r) m)))
+      (λ f. tt))
+
+  size : length rs ≡ count
+  size = length-take-le count table few
+
+  records-told : RunTold (WriteRefused text table count room) (recordsRun firstEdition rs)
+  unfolding recordsRun
+  records-told =
+      run-told (WriteRefused text table count room) (recordTurn firstEdition rs) (RecordsBefore rs) (next rs) (length rs)
+      (λ i l held. turn-told i (rw size at l) held) (start rs)
+
+  all-before : (n : ℕ) → recordsRun firstEdition rs ≡ Ended n → RecordsBefore table count
+  unfolding recordsRun
+  all-before n e =
+      let r = run-ended (recordTurn firstEdition rs) (RecordsBefore rs) (next rs) (length rs) n (start rs) e in
+      let l : count ≤ n = whole (decLt n count) (r .1) in
+      before count (omega arith) (record { inside = λ i h. r .0 .inside i (omega arith); apart = λ i j h k. r .0 .apart i j h (omega arith) })
+    where
+      whole : Dec (n < count) → (n < length rs → recordTurn firstEdition rs n ≡ Done) → count ≤ n
+      whole (yes a) f = absurd (not-done rs n (f (rw size a)))
+      whole (no a) f = omega arith
+
+pub write-told : (text : List ℕ) (table : List Record) (count room : ℕ) → AnswerTold (WriteRefused text table count room) (written text table count room)
+unfolding written
+write-told text table count room =
+    let P = WriteRefused text table count room in
+    if-told (AnswerTold P) (ltb (length table) count) _ _ (λ e. count-over (ltb-true _ _ e)) (λ e.
+    let few = ltb-false (length table) count e in
+    if-told (AnswerTold P) (not (soundText text)) _ _ (λ f. text-broken few (text-told text (not-true _ f))) (λ f.
+    after-told P (recordsRun firstEdition (take count table)) _ (records-told text table count room few (not-false _ f)) (λ n g.
+    if-told (AnswerTold P) (ltb room (length (groupBytes (groupFrom text table count)))) _ _
+    (λ h. buffer-short few (not-false _ f) (all-before text table count room few (not-false _ f) n g) (ltb-true _ _ h))
+    (λ h. tt))))

@@ -1,0 +1,115 @@
+-- When the contents of a group are refused (document 01, "Numbers of refusal": "contents: .. per child header cut 2, tag 6, length past the group 2, own length 7, then 8; or 9, 10; or 9, 10, 11").
+-- Places are those of the contents c, the bytes after a group's header.
+use Prim.Native.Nat.{ℕ, _+_, _-_, _<_, _≤_}
+use mathlib.Core.Path.{_≡_}
+use mathlib.Core.Bool.{Bool, true, false}
+use mathlib.Core.List.{List}
+use lib.ListN.{length, getD, take, drop}
+use Rattle.layout.specs.Bytes.{word, tagAt, Sdec, Ctab, Cntt}
+use Rattle.layout.specs.Refusals.{badSize, badText, outOfRange, channelAgain, strayCntt}
+use Rattle.layout.specs.Ranges.{firstEdition, ranges, outOf, cnttValue}
+use Rattle.layout.specs.Sdec.{soundText}
+use Rattle.layout.specs.Group.{ctabPlace, ctabChannel, cnttPlace, cnttChannel}
+use Rattle.law_refusals.specs.Heads.{HeadRefused, Headed}
+use Rattle.law_refusals.specs.Text.{TextBroken}
+
+-- "first one": number k of n passes a test, and none before it does
+pub record FirstSuch (test : ℕ → Bool) (n k : ℕ) : Type 0 where
+  pub within : k < n
+  pub passes : test k ≡ true
+  pub before : (i : ℕ) → i < k → test i ≡ false
+
+-- ---- where the children stand, and whose they are
+
+module _ (c : List ℕ) where
+  -- the tag of Ctab number n, after the Sdec and n Ctabs
+  abbrev pub ctabTag : ℕ → ℕ
+  ctabTag n = ctabPlace firstEdition (8 + word c 4) n
+
+  -- its source channel
+  abbrev pub ctabSource : ℕ → ℕ
+  ctabSource n = ctabChannel firstEdition c (8 + word c 4) n
+
+  -- the tag of Cntt number j after n Ctabs
+  abbrev pub cnttTag : ℕ → ℕ → ℕ
+  cnttTag n j = cnttPlace (ctabTag n) j
+
+  -- its source channel
+  abbrev pub cnttSource : ℕ → ℕ → ℕ
+  cnttSource n j = cnttChannel c (ctabTag n) j
+
+-- ---- the children before
+
+-- Ctab number n: its header, its size, its bytes in range
+pub record CtabInRange (c : List ℕ) (n : ℕ) : Type 0 where
+  pub head : Headed c (ctabTag c n) Ctab
+  pub size : word c (ctabTag c n + 4) ≡ firstEdition .size
+  pub inside : (k : ℕ) → k < firstEdition .size → outOf ranges k (getD c (ctabTag c n + 8 + k) 0) ≡ false
+
+-- .. and its source channel its own
+pub record CtabStands (c : List ℕ) (n : ℕ) : Type 0 where
+  pub ctab : CtabInRange c n
+  pub apart : (i : ℕ) → i < n → ctabSource c i ≡ ctabSource c n → ⊥
+
+-- a sound Sdec, then n Ctabs
+pub record CtabsBefore (c : List ℕ) (n : ℕ) : Type 0 where
+  pub sdec : Headed c 0 Sdec
+  pub text : soundText (take (word c 4) (drop 8 c)) ≡ true
+  pub ctabs : (i : ℕ) → i < n → CtabStands c i
+
+-- Cntt number j after n Ctabs: its header, its size, its two bytes in range
+pub record CnttInRange (c : List ℕ) (n j : ℕ) : Type 0 where
+  pub head : Headed c (cnttTag c n j) Cntt
+  pub size : word c (cnttTag c n j + 4) ≡ 2
+  pub channel : outOf ranges 0 (getD c (cnttTag c n j + 8) 0) ≡ false
+  pub value : cnttValue (getD c (cnttTag c n j + 9) 0) ≡ true
+
+-- .. and its source channel its own, and that of a Ctab, no earlier than that of the Cntt before
+pub record CnttStands (c : List ℕ) (n j : ℕ) : Type 0 where
+  pub cntt : CnttInRange c n j
+  pub apart : (i : ℕ) → i < j → cnttSource c n i ≡ cnttSource c n j → ⊥
+  pub home : (i : ℕ) × ((i < n) × (ctabSource c i ≡ cnttSource c n j))
+  pub order : (a b : ℕ) → 0 < j → a < n → b < n → ctabSource c a ≡ cnttSource c n (j - 1) → ctabSource c b ≡ cnttSource c n j → a ≤ b
+
+-- a sound Sdec, then n Ctabs and no more, then j Cntts
+pub record CnttsBefore (c : List ℕ) (n j : ℕ) : Type 0 where
+  pub ctabs : CtabsBefore c n
+  pub over : ctabTag c n < length c → (ctabTag c n + 8 ≤ length c) × (tagAt c (ctabTag c n) ≡ Cntt)
+  pub cntts : (i : ℕ) → i < j → CnttStands c n i
+
+-- ---- the refusals of the contents: number and place
+
+pub data ContentsRefused (c : List ℕ) : ℕ → ℕ → Type 0 where
+  -- 2, 6, 2: the Sdec's header, at its tag
+  sdec-head : (number : ℕ) → HeadRefused c 0 Sdec number → ContentsRefused c number 0
+  -- 8: "a rule on one Sdec's length, bytes or names broken", at the Sdec tag
+  sdec-text : Headed c 0 Sdec → TextBroken (take (word c 4) (drop 8 c)) → ContentsRefused c badText 0
+  -- 2, 6, 2: a child's header after n Ctabs, at its tag; it is no Cntt
+  ctab-head : (n number : ℕ) → CtabsBefore c n → ctabTag c n < length c → (ctabTag c n + 8 ≤ length c → tagAt c (ctabTag c n) ≡ Cntt → ⊥)
+      → HeadRefused c (ctabTag c n) Ctab number → ContentsRefused c number (ctabTag c n)
+  -- 7: "Ctab not 27", at its tag
+  ctab-size : (n : ℕ) → CtabsBefore c n → Headed c (ctabTag c n) Ctab → (word c (ctabTag c n + 4) ≡ firstEdition .size → ⊥) → ContentsRefused c badSize (ctabTag c n)
+  -- 9: "byte out of range, first one", at the byte
+  ctab-byte : (n k : ℕ) → CtabsBefore c n → Headed c (ctabTag c n) Ctab → word c (ctabTag c n + 4) ≡ firstEdition .size
+      → FirstSuch (λ i. outOf ranges i (getD c (ctabTag c n + 8 + i) 0)) (firstEdition .size) k → ContentsRefused c outOfRange (ctabTag c n + 8 + k)
+  -- 10: "second Ctab .. of a channel", at the later tag
+  ctab-again : (i n : ℕ) → CtabsBefore c n → CtabInRange c n → i < n → ctabSource c i ≡ ctabSource c n → ContentsRefused c channelAgain (ctabTag c n)
+  -- 2, 6, 2: a child's header after n Ctabs and j Cntts, at its tag
+  cntt-head : (n j number : ℕ) → CnttsBefore c n j → cnttTag c n j < length c → HeadRefused c (cnttTag c n j) Cntt number → ContentsRefused c number (cnttTag c n j)
+  -- 7: "Cntt not 2", at its tag
+  cntt-size : (n j : ℕ) → CnttsBefore c n j → Headed c (cnttTag c n j) Cntt → (word c (cnttTag c n j + 4) ≡ 2 → ⊥) → ContentsRefused c badSize (cnttTag c n j)
+  -- 9: "byte out of range, first one", at the byte: the source channel ..
+  cntt-channel : (n j : ℕ) → CnttsBefore c n j → Headed c (cnttTag c n j) Cntt → word c (cnttTag c n j + 4) ≡ 2
+      → outOf ranges 0 (getD c (cnttTag c n j + 8) 0) ≡ true → ContentsRefused c outOfRange (cnttTag c n j + 8)
+  -- .. or, where that is in range, the table value
+  cntt-value : (n j : ℕ) → CnttsBefore c n j → Headed c (cnttTag c n j) Cntt → word c (cnttTag c n j + 4) ≡ 2
+      → outOf ranges 0 (getD c (cnttTag c n j + 8) 0) ≡ false → cnttValue (getD c (cnttTag c n j + 9) 0) ≡ false → ContentsRefused c outOfRange (cnttTag c n j + 9)
+  -- 10: "second .. Cntt of a channel", at the later tag
+  cntt-again : (i n j : ℕ) → CnttsBefore c n j → CnttInRange c n j → i < j → cnttSource c n i ≡ cnttSource c n j → ContentsRefused c channelAgain (cnttTag c n j)
+  -- 11: "Cntt without Ctab", at its tag
+  cntt-stray : (n j : ℕ) → CnttsBefore c n j → CnttInRange c n j → ((i : ℕ) → i < j → cnttSource c n i ≡ cnttSource c n j → ⊥)
+      → ((i : ℕ) → i < n → ctabSource c i ≡ cnttSource c n j → ⊥)
+      → ContentsRefused c strayCntt (cnttTag c n j)
+  -- 11: "or out of order", at its tag: its Ctab stands before that of the Cntt before it
+  cntt-order : (n j a b : ℕ) → CnttsBefore c n j → CnttInRange c n j → ((i : ℕ) → i < j → cnttSource c n i ≡ cnttSource c n j → ⊥) → 0 < j → a < b → b < n
+      → ctabSource c a ≡ cnttSource c n j → ctabSource c b ≡ cnttSource c n (j - 1) → ContentsRefused c strayCntt (cnttTag c n j)

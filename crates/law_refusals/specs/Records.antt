@@ -1,0 +1,78 @@
+-- When records in memory are refused: placement, writing and the screen; and the salvage list (document 01, "Numbers of refusal": "placement: 16, 9, 17. Writing: 16 .., 8, per record 9 then 10, 14.
+-- Screen: 16, then 9"; "salvage: 3").
+use Prim.Native.Nat.{ℕ, _+_, _*_, _<_, _≤_}
+use mathlib.Core.Path.{_≡_}
+use mathlib.Core.Bool.{true, false}
+use mathlib.Core.List.{List}
+use lib.ListN.{length, getD}
+use Rattle.layout.specs.declared.record.Record.{Record}
+use Rattle.layout.specs.Refusals.{overLimit, badText, outOfRange, channelAgain, noRoom, badNumber, rootFixed}
+use Rattle.layout.specs.Ranges.{firstEdition, ranges, outOf}
+use Rattle.layout.specs.Records.{blank, channelOf, badByte}
+use Rattle.layout.specs.Sdec.{soundText}
+use Rattle.layout.specs.Body.{bodyLimit}
+use Rattle.layout.specs.Salvage.{salvage}
+use Rattle.layout.specs.Plays.{rootCount}
+use Rattle.layout.specs.Place.{noteCount, effective}
+use Rattle.layout.specs.Write.{groupBytes, groupFrom}
+use Rattle.law_refusals.specs.Text.{TextBroken}
+use Rattle.law_refusals.specs.Contents.{FirstSuch}
+
+-- byte k is the first of a record in memory that is out of range; "a bad Cntt value counts as byte 21"
+abbrev pub FirstBadByte : Record → ℕ → Type 0
+FirstBadByte r k = FirstSuch (badByte firstEdition r) (firstEdition .held) k
+
+-- every byte of a record in memory is in range, and its Cntt value
+abbrev pub InRange : Record → Type 0
+InRange r = (k : ℕ) → k < firstEdition .held → badByte firstEdition r k ≡ false
+
+-- ---- placement
+
+pub data PlaceRefused (r : Record) (root note : ℕ) : ℕ → ℕ → Type 0 where
+  -- 16: "root .. out of range", at 0
+  root-out : rootCount ≤ root → PlaceRefused r root note badNumber 0
+  -- 16: "note .. out of range", at 0
+  note-out : noteCount ≤ note → PlaceRefused r root note badNumber 0
+  -- 9: "byte out of range, first one"; "in .. a single record it is the byte"
+  record-byte : (k : ℕ) → root < rootCount → note < noteCount → FirstBadByte r k → PlaceRefused r root note outOfRange k
+  -- 17: "root fixed, table not bypass", at 0
+  root-fixed : root < rootCount → note < noteCount → InRange r → r .rule ≡ 1
+      → (effective (r .second) (r .table) ≡ 0x00 → ⊥) → (effective (r .second) (r .table) ≡ 0x80 → ⊥) → PlaceRefused r root note rootFixed 0
+
+-- ---- writing
+
+-- the first n records of a lent table are in range, each of a source channel of its own
+pub record RecordsBefore (table : List Record) (n : ℕ) : Type 0 where
+  pub inside : (i : ℕ) → i < n → InRange (getD table i blank)
+  pub apart : (i j : ℕ) → i < j → j < n → channelOf (getD table i blank) ≡ channelOf (getD table j blank) → ⊥
+
+-- a text and the first records of a lent table, into a buffer of so many bytes
+pub data WriteRefused (text : List ℕ) (table : List Record) (count room : ℕ) : ℕ → ℕ → Type 0 where
+  -- 16: "count out of range": "when the count exceeds the lent table", at 0
+  count-over : length table < count → WriteRefused text table count room badNumber 0
+  -- 8: "a rule on one Sdec's length, bytes or names broken", "0 in writing"
+  text-broken : count ≤ length table → TextBroken text → WriteRefused text table count room badText 0
+  -- 9: "byte out of range, first one"; "in writing, place is 27 times the record's number (from 0) plus the byte"
+  table-byte : (i k : ℕ) → i < count → count ≤ length table → soundText text ≡ true → RecordsBefore table i → FirstBadByte (getD table i blank) k
+      → WriteRefused text table count room outOfRange (firstEdition .size * i + k)
+  -- 10: "second Ctab .. of a channel"; "10 points at the later record's byte 0"
+  table-again : (j i : ℕ) → j < i → i < count → count ≤ length table → soundText text ≡ true → RecordsBefore table i → InRange (getD table i blank)
+      → channelOf (getD table j blank) ≡ channelOf (getD table i blank) → WriteRefused text table count room channelAgain (firstEdition .size * i)
+  -- 14: "lent room too small for the full answer", at 0
+  buffer-short : count ≤ length table → soundText text ≡ true → RecordsBefore table count → room < length (groupBytes (groupFrom text table count)) → WriteRefused text table count room noRoom 0
+
+-- ---- the screen
+
+pub data FieldRefused (index value : ℕ) : ℕ → ℕ → Type 0 where
+  -- 16: "field index .. out of range", at 0
+  index-out : firstEdition .held ≤ index → FieldRefused index value badNumber 0
+  -- 9: "for the set value alone", at the byte
+  value-out : index < firstEdition .held → outOf ranges index value ≡ true → FieldRefused index value outOfRange index
+
+-- ---- the salvage list, into a lent list of so many numbers, three an entry
+
+pub data SalvageRefused (s : List ℕ) (room : ℕ) : ℕ → ℕ → Type 0 where
+  -- 3: "body over its limit", at 0
+  list-over : bodyLimit < length s → SalvageRefused s room overLimit 0
+  -- 14: "lent room too small for the full answer", at 0
+  list-short : length s ≤ bodyLimit → room < 3 * length (salvage s) → SalvageRefused s room noRoom 0

@@ -1,0 +1,146 @@
+-- What stands in sound contents is given back by writing its records: Ctab by Ctab, then the Cntts, which follow the order of their Ctabs.
+use Prim.Native.Nat.{ℕ, suc, _+_, _*_, _<_}
+use mathlib.Core.Path.{_≡_, refl, sym, ap, _∙_}
+use mathlib.Core.Bool.{Bool, true, false, cond}
+use mathlib.Core.List.{List, _++_, append-nil, flatMap}
+use native.Mathlib.Omega.{arith}
+use lib.Dec.{ltb}
+use lib.ListN.{length, getD, take, drop}
+use lib.Seq.{drop-length, take-all}
+use borrow.Author.Tests.{ltb-true}
+use Rattle.layout.specs.Lists.{rows}
+use Rattle.layout.specs.Bytes.{word, Sdec, chunk}
+use Rattle.layout.specs.Ranges.{firstEdition, ranges, outOf}
+use Rattle.layout.specs.declared.record.Record.{Record}
+use Rattle.layout.specs.declared.record.SecondTable.the-variants.{Absent, Value}
+use Rattle.layout.specs.Records.{bytesOf, recordOf, blank, channelOf, badSecond, firstBad}
+use Rattle.layout.specs.Group.{ctabChannel, ctabTurn, ctabsOf, cnttPlace, cnttChannel, cnttOf, cnttTurn, cnttsOf, secondOf, recordAt, groupOf}
+use Rattle.layout.specs.Write.{ctabBytes, payloadBytes, Allowed}
+use Rattle.layout.proofs.Heads.{head-sound}
+use Rattle.layout.proofs.Ctabs.{CtabMore, turn-more}
+use Rattle.layout.proofs.Cntts.{CnttMore, cntt-turn-more}
+use Rattle.layout.proofs.GroupSound.{Contents}
+use Rattle.layout.proofs.Lists.{rows-length, getD-rows}
+use Rattle.layout.proofs.Sixteen.{channels-apart}
+use Rattle.layout.proofs.RecordBytes.{record-channel}
+use Rattle.layout.proofs.BytesBack.{read-bytes}
+use Rattle.law_rounds.specs.Rounds.{Bytes}
+use Rattle.law_rounds.proofs.RecordBack.{read-whole}
+use Rattle.law_rounds.proofs.Runs.{run-ran}
+use Rattle.law_rounds.proofs.Blocks.{moved, blocks-read}
+use Rattle.law_rounds.proofs.Chunks.{chunk-read}
+use Rattle.layout.proofs.Pigeonhole.{Apart}
+use Rattle.law_rounds.proofs.Follows.{pairBytes, ownCntt, valueOn, cntts-written}
+use Rattle.law_rounds.proofs.InRange.{none-bad, value-good, absent-good}
+use Rattle.law_rounds.proofs.CtabRounds.{read-ranged, held-byte, held-size, ctab-read}
+use Rattle.law_rounds.proofs.CnttOrder.{Ordered, order-read, homeRead, follows-read}
+use Rattle.law_rounds.proofs.CnttRounds.{cntt-read}
+
+module _ (c : List ℕ) (t n m : ℕ) where
+  -- where the Ctabs begin
+  abbrev p : ℕ
+  p = 8 + t
+
+  -- where the Cntts begin
+  abbrev q : ℕ
+  q = 8 + t + 35 * n
+
+  -- record number i
+  abbrev row : ℕ → Record
+  row i = recordAt c (8 + t) (8 + t + 35 * n) m i
+
+  -- the value of Cntt number j
+  abbrev valueAt : ℕ → ℕ
+  valueAt j = getD c (8 + t + 35 * n + 10 * j + 9) 0
+
+  channels : (i : ℕ) → channelOf (row i) ≡ ctabChannel firstEdition c (8 + t) i
+  unfolding channelOf
+  channels i = record-channel c p q m i
+
+  seconds : (i : ℕ) → row i .second ≡ valueOn (cnttChannel c q) valueAt m (ctabChannel firstEdition c p i)
+  unfolding recordAt recordOf secondOf cnttOf
+  seconds i = refl
+
+  module _ (h : Contents c t n m) where
+    ctab : (i : ℕ) → i < n → CtabMore c p i (8 + t + 35 * i)
+    unfolding ctabsOf
+    ctab i l = turn-more c p i (run-ran (ctabTurn firstEdition c p) (length c + 1) n (h .ctabs) .goes i l)
+
+    cntt : (j : ℕ) → j < m → CnttMore c p n q j (8 + t + 35 * n + 10 * j)
+    unfolding cnttsOf
+    cntt j l = cntt-turn-more c p n q j (run-ran (cnttTurn c p n q) (length c + 1) m (h .cntts) .goes j l)
+
+    apart : Apart (ctabChannel firstEdition c p) n
+    apart = channels-apart c p n (h .ctabs) .apart
+
+    ordered : (j : ℕ) → j < m → Ordered c p n q j (cnttChannel c q j)
+    unfolding cnttChannel
+    ordered j l = order-read c p n q j (getD c (8 + t + 35 * n + 10 * j + 8) 0) (cntt j l .order)
+
+    held : (i : ℕ) → i < n → bytesOf (row i) ≡ take 26 (drop (8 + t + 35 * i + 8) c)
+    unfolding recordAt
+    held i l =
+        let z = held-size c p i (8 + t + 35 * i) (ctab i l) in
+        read-bytes (take 26 (drop (8 + t + 35 * i + 8) c)) (secondOf c q m (ctabChannel firstEdition c p i)) (omega arith)
+        ∙ take-all 26 (take 26 (drop (8 + t + 35 * i + 8) c)) (omega arith)
+
+    -- ---- the bytes
+
+    ctabs-back : Bytes c → drop p c ≡ flatMap ctabBytes (rows row 0 n) ++ drop q c
+    ctabs-back b =
+        moved c p (8 + t + 35 * 0) (omega arith)
+        ∙ blocks-read c (λ i. 8 + t + 35 * i) row ctabBytes n (λ i l. ctab-read c p i (8 + t + 35 * i) (ctab i l) (row i) b (held i l)
+        ∙ ap (λ x. ctabBytes (row i) ++ x) (moved c (8 + t + 35 * i + 35) (8 + t + 35 * suc i) (omega arith)))
+
+    cntts-back : Bytes c → drop q c ≡ flatMap ownCntt (rows row 0 n)
+    unfolding cnttChannel
+    cntts-back b =
+        moved c q (8 + t + 35 * n + 10 * 0) (omega arith)
+        ∙ blocks-read c (λ j. 8 + t + 35 * n + 10 * j) (λ j. (cnttChannel c q j, valueAt j)) pairBytes m
+        (λ j l. cntt-read c p n q j (8 + t + 35 * n + 10 * j) (cntt j l) b
+        ∙ ap (λ x. pairBytes (cnttChannel c q j, valueAt j) ++ x) (moved c (8 + t + 35 * n + 10 * j + 10) (8 + t + 35 * n + 10 * suc j) (omega arith)))
+        ∙ ap (λ x. flatMap pairBytes (rows (λ j. (cnttChannel c q j, valueAt j)) 0 m) ++ x) (moved c (8 + t + 35 * n + 10 * m) (length c) (h .cover) ∙ drop-length c)
+        ∙ append-nil _
+        ∙ sym (cntts-written n m (ctabChannel firstEdition c p) (cnttChannel c q) (homeRead c p n q m apart ordered) valueAt (follows-read c p n q m apart ordered) row channels seconds)
+
+    pub contents-back : Bytes c → payloadBytes (groupOf c t n m) ≡ c
+    unfolding payloadBytes groupOf
+    contents-back b =
+        let s = head-sound c 0 Sdec (h .tagged) in
+        let w : word c 4 ≡ t = sym (h .text) in
+        sym (chunk-read c 0 Sdec t b (s .0) w (omega (arith, s .1))
+        ∙ ap (λ x. chunk Sdec (take t (drop 8 c)) ++ x) (ctabs-back b ∙ ap (λ x. flatMap ctabBytes (rows row 0 n) ++ x) (cntts-back b)))
+
+    -- ---- the rules
+
+    second-ok : (channel : ℕ) → badSecond (secondOf c q m channel) ≡ false
+    unfolding secondOf
+    second-ok channel = go (ltb (cnttOf c q m channel) m) refl
+      where
+        go : (b : Bool) → ltb (cnttOf c q m channel) m ≡ b → badSecond (cond b (Value (getD c (cnttPlace q (cnttOf c q m channel) + 9) 0)) Absent) ≡ false
+        go true e = value-good _ (cntt (cnttOf c q m channel) (ltb-true _ _ e) .value)
+        go false e = absent-good
+
+    row-second : (i : ℕ) → badSecond (row i .second) ≡ false
+    unfolding recordAt recordOf
+    row-second i = second-ok (ctabChannel firstEdition c p i)
+
+    row-ok : (i : ℕ) → i < n → firstBad firstEdition (row i) ≡ 26
+    row-ok i l = none-bad (row i) ranged (row-second i)
+      where
+        ranged : (k : ℕ) → k < 26 → outOf ranges k (getD (bytesOf (row i)) k 0) ≡ false
+        ranged k u =
+            rw (held i l, held-byte c p i (8 + t + 35 * i) (ctab i l) k u) (read-ranged c p i (8 + t + 35 * i) (ctab i l) k (omega arith))
+
+    pub contents-allowed : Allowed (groupOf c t n m)
+    unfolding groupOf recordAt
+    contents-allowed =
+        let below : (i : ℕ) → i < length (rows row 0 n) → i < n = λ i u. rw rows-length at u in
+        let at : (i : ℕ) → i < length (rows row 0 n) → getD (rows row 0 n) i blank ≡ row i = λ i u. getD-rows row blank n i (below i u) in
+        record {
+          text = h .letters;
+          whole = λ i u. rw (at i u) (read-whole _ _);
+          ranges = λ i u. rw (at i u) (row-ok i (below i u));
+          apart = λ i j u v x. apart i j u (below j v)
+              (sym (channels i) ∙ ap channelOf (sym (at i (omega arith))) ∙ x ∙ ap channelOf (at j v) ∙ channels j);
+        }

@@ -1,0 +1,58 @@
+-- What a granted edit says: the body is accepted, the group and the record of the channel are there, and the new record is of that channel and in range.
+use Prim.Native.Nat.{ℕ, _+_, _*_, _≤_, _<_}
+use mathlib.Core.Path.{_≡_, refl, sym}
+use mathlib.Core.Bool.{cond, not}
+use mathlib.Core.List.{List}
+use native.Mathlib.Omega.{arith}
+use lib.Dec.{ltb, leb, eqb}
+use borrow.Author.Tests.{ltb-false, leb-false, eqb-true, not-false}
+use Rattle.layout.specs.Ranges.{firstEdition}
+use Rattle.layout.specs.declared.turn.Run.{Run}
+use Rattle.layout.specs.declared.turn.Run.the-variants.{Stopped, Ended}
+use Rattle.layout.specs.declared.record.Record.{Record}
+use Rattle.layout.specs.Records.{channelOf, fileBytes}
+use Rattle.layout.specs.Answers.{refused, granted, afterRun}
+use Rattle.layout.specs.declared.answer.Standing.{Standing}
+use Rattle.layout.specs.Body.{bodyRun}
+use Rattle.layout.specs.Asked.{standing, rowIn, ofGroup, ofChannel}
+use Rattle.layout.specs.Edit.{replaced, firstEdited, edited}
+use Rattle.law_rounds.proofs.Granted.{if-granted, granted-once}
+
+pub record EditGranted (s after : List ℕ) (g channel : ℕ) (new : Record) (x : Standing) : Type 0 where
+  pub n : ℕ
+  pub accepted : bodyRun s ≡ Ended n
+  pub there : g < n
+  pub its : rowIn s x channel < x .records
+  pub own : channelOf new ≡ channel
+  pub ranged : 26 ≤ firstEdited firstEdition new
+  pub is : after ≡ replaced s (x .ctabs + 35 * rowIn s x channel + 8) (fileBytes new)
+
+pub edit-granted : (s after : List ℕ) (g channel : ℕ) (new : Record) → edited s g channel new ≡ granted after → EditGranted s after g channel new (standing s g)
+unfolding edited ofGroup ofChannel afterRun
+edit-granted s after g channel new e = go (bodyRun s) refl e
+  where
+    x : Standing
+    x = standing s g
+
+    bytes : List ℕ
+    bytes = replaced s (x .ctabs + 35 * rowIn s x channel + 8) (fileBytes new)
+
+    go : (r : Run) → bodyRun s ≡ r
+        → afterRun r (λ n. cond (leb n g) (refused 16 0) (cond (leb (x .records) (rowIn s x channel)) (refused 15 0) (cond (not (eqb (channelOf new) channel)) (refused 16 0)
+        (cond (ltb (firstEdited firstEdition new) 26) (refused 9 (firstEdited firstEdition new)) (granted bytes))))) ≡ granted after
+        → EditGranted s after g channel new (standing s g)
+    go (Stopped number place) f q = let z : _≡_ {A = ℕ} 0 1 = cc in absurd (omega arith)
+    go (Ended n) f q =
+        let a = if-granted (leb n g) 16 0 _ after q in
+        let b = if-granted (leb (x .records) (rowIn s x channel)) 15 0 _ after (a .1) in
+        let d = if-granted (not (eqb (channelOf new) channel)) 16 0 _ after (b .1) in
+        let h = if-granted (ltb (firstEdited firstEdition new) 26) 9 (firstEdited firstEdition new) (granted bytes) after (d .1) in
+        record {
+          n = n;
+          accepted = f;
+          there = leb-false n g (a .0);
+          its = leb-false _ _ (b .0);
+          own = eqb-true _ _ (not-false _ (d .0));
+          ranged = ltb-false _ _ (h .0);
+          is = sym (granted-once bytes after (h .1));
+        }

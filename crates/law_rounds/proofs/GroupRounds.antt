@@ -1,0 +1,123 @@
+-- The two round trips of a group: what is sound is given back byte for byte and is allowed; what is allowed and written is read, whatever stands behind it.
+use Prim.Native.Nat.{ℕ, _+_, _-_, _≤_}
+use mathlib.Core.Path.{_≡_, refl, sym, ap, ap₂, _∙_}
+use mathlib.Core.List.{List, _++_, flatMap}
+use native.Mathlib.Omega.{arith}
+use lib.ListN.{length, take, drop}
+use lib.Seq.{drop-drop, take-at, drop-at}
+use Rattle.layout.specs.Bytes.{word, CSEG, Sdec, chunk}
+use Rattle.layout.specs.Ranges.{inside}
+use Rattle.layout.specs.declared.turn.Judged.the-variants.{Sound}
+use Rattle.layout.specs.Group.{contents, payload, groupSize, groupAt, Group, groupOf}
+use Rattle.layout.specs.Write.{ctabBytes, payloadBytes, groupBytes, Allowed}
+use Rattle.layout.proofs.Texts.{text-most}
+use Rattle.layout.proofs.Heads.{head-sound}
+use Rattle.layout.proofs.Groups.{sdec-tag, cseg-tag, contents-sound, group-sound}
+use Rattle.layout.proofs.GroupPlaces.{payload-length}
+use Rattle.layout.proofs.GroupSound.{contents-sound-is, group-sound-is}
+use Rattle.law_rounds.specs.Rounds.{Bytes, GroupRead}
+use Rattle.law_rounds.proofs.Chunks.{bytes-part, chunk-read, length-chunk, written-length, written-rest, written-fits, written-head}
+use Rattle.law_rounds.proofs.Follows.{ownCntt}
+use Rattle.law_rounds.proofs.Seconds.{pairs}
+use Rattle.law_rounds.proofs.ContentsRead.{contents-back, contents-allowed}
+use Rattle.law_rounds.proofs.RecordsPlaced.{Placed, records-placed}
+use Rattle.law_rounds.proofs.RecordsWritten.{ctabs-run, cntts-run, records-back, at-most, at-most-cntts}
+
+-- ---- read
+
+module _ (p : List ℕ) (t n m : ℕ) (e : groupAt p ≡ Sound t n m) where
+  pub group-allowed : Allowed (groupOf (payload p) t n m)
+  group-allowed = contents-allowed (payload p) t n m (contents-sound-is (payload p) t n m (group-sound-is p t n m e .inside))
+
+  pub group-back : Bytes p → groupBytes (groupOf (payload p) t n m) ≡ take (groupSize p) p
+  unfolding groupBytes payload groupSize
+  group-back b =
+      let g = group-sound-is p t n m e in
+      let h = head-sound p 0 CSEG (g .head) in
+      let long = payload-length p (omega (arith, h .1)) in
+      ap (chunk CSEG) (contents-back (payload p) t n m (contents-sound-is (payload p) t n m (g .inside)) (bytes-part p (word p 4) 8 b))
+      ∙ sym (ap (take (8 + word p 4)) (chunk-read p 0 CSEG (word p 4) b (h .0) refl (h .1))
+      ∙ take-at (chunk CSEG (payload p)) _ (8 + word p 4) (length-chunk CSEG (payload p) refl ∙ ap (λ x. 8 + x) long))
+
+-- ---- written
+
+-- what stands behind the Sdec
+unfoldable pub rest : Group → List ℕ
+rest g = flatMap ctabBytes (g .records) ++ flatMap ownCntt (g .records)
+
+module _ (g : Group) (a : Allowed g) where
+  pub spread : payloadBytes g ≡ chunk Sdec (g .text) ++ rest g
+  unfolding payloadBytes rest
+  spread = refl
+
+  pub short : length (g .text) ≤ 255
+  short = text-most (g .text) (a .text)
+
+  sdec-rest : drop 8 (payloadBytes g) ≡ g .text ++ rest g
+  sdec-rest = written-rest (payloadBytes g) 0 Sdec (g .text) (rest g) refl spread
+
+  text-back : take (length (g .text)) (drop 8 (payloadBytes g)) ≡ g .text
+  text-back = ap (take (length (g .text))) sdec-rest ∙ take-at (g .text) (rest g) (length (g .text)) refl
+
+  ctabs-there : drop (8 + length (g .text)) (payloadBytes g) ≡ flatMap ctabBytes (g .records) ++ flatMap ownCntt (g .records)
+  unfolding rest
+  ctabs-there =
+      sym (drop-drop (length (g .text)) 8 (payloadBytes g)) ∙ ap (drop (length (g .text))) sdec-rest ∙ drop-at (g .text) (rest g) (length (g .text)) refl
+
+  sdec-fits : 8 + length (g .text) ≤ length (payloadBytes g)
+  sdec-fits = omega (arith, written-fits (payloadBytes g) 0 Sdec (g .text) (rest g) refl spread)
+
+  placed : Placed (g .records) (payloadBytes g) (8 + length (g .text))
+  placed = records-placed (g .records) (payloadBytes g) (8 + length (g .text)) ctabs-there sdec-fits
+
+  -- 16 records and as many Cntts at the most
+  pub payload-short : (8 ≤ length (payloadBytes g)) × (length (payloadBytes g) ≤ 983)
+  payload-short =
+      let w = placed .cover in
+      let n = at-most (g .records) (a .ranges) (a .apart) in
+      let m = at-most-cntts (g .records) in
+      let t = short in
+      (omega arith, omega arith)
+
+  pub contents-written : contents (payloadBytes g) ≡ Sound (length (g .text)) (length (g .records)) (length (pairs (g .records)))
+  contents-written =
+      let l : ℕ = length (g .text) in
+      let c : List ℕ = payloadBytes g in
+      let z : 8 + length (g .text) - 8 ≡ length (g .text) = omega arith in
+      contents-sound c 0 (sym (rw sdec-tag (written-head c 0 Sdec (g .text) (rest g) refl spread (omega (arith, short))))) refl l
+      (sym (written-length c 0 Sdec (g .text) (rest g) refl spread (omega (arith, short))))
+      (rw (z, text-back) (a .text))
+      (length (g .records)) (ctabs-run (g .records) (a .whole) (a .ranges) (a .apart) c (8 + l) placed)
+      (length (pairs (g .records))) (cntts-run (g .records) (a .whole) (a .ranges) (a .apart) c (8 + l) placed)
+
+  pub value-back : groupOf (payloadBytes g) (length (g .text)) (length (g .records)) (length (pairs (g .records))) ≡ g
+  unfolding groupOf
+  value-back =
+      λ i. record { text = text-back i; records = records-back (g .records) (a .whole) (a .ranges) (a .apart) (payloadBytes g) (8 + length (g .text)) placed i }
+
+  module _ (x : List ℕ) where
+    chunked : groupBytes g ++ x ≡ chunk CSEG (payloadBytes g) ++ x
+    unfolding groupBytes
+    chunked = refl
+
+    length-there : word (groupBytes g ++ x) 4 ≡ length (payloadBytes g)
+    length-there = written-length (groupBytes g ++ x) 0 CSEG (payloadBytes g) x refl chunked (omega (arith, payload-short .1))
+
+    payload-there : payload (groupBytes g ++ x) ≡ payloadBytes g
+    unfolding payload
+    payload-there = ap₂ take length-there (written-rest (groupBytes g ++ x) 0 CSEG (payloadBytes g) x refl chunked) ∙ take-at (payloadBytes g) x (length (payloadBytes g)) refl
+
+    pub group-read : GroupRead g x
+    unfolding groupSize groupBytes payload
+    group-read =
+        let l : ℕ = length (payloadBytes g) in
+        let z : 8 + length (payloadBytes g) - 8 ≡ length (payloadBytes g) = omega arith in
+        let rest-there = written-rest (groupBytes g ++ x) 0 CSEG (payloadBytes g) x refl chunked in
+        record {
+          cntts = length (pairs (g .records));
+          sound = group-sound (groupBytes g ++ x) 0 (sym (rw cseg-tag (written-head (groupBytes g ++ x) 0 CSEG (payloadBytes g) x refl chunked (omega (arith, payload-short .1))))) refl l
+              (sym length-there) (omega (arith, payload-short .0)) _ _ _
+              (rw (z, rest-there, take-at (payloadBytes g) x (length (payloadBytes g)) refl) contents-written);
+          size = ap (λ y. 8 + y) length-there ∙ sym (length-chunk CSEG (payloadBytes g) refl);
+          back = rw payload-there value-back;
+        }

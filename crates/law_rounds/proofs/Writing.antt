@@ -1,0 +1,144 @@
+-- What may be written is what is written: the run over the records goes on exactly where each is in range and of a source channel of its own.
+use Prim.Native.Nat.{ℕ, zero, suc, _+_, _*_, _-_, _≤_, _<_}
+use mathlib.Core.Path.{_≡_, refl, sym, ap, _∙_}
+use mathlib.Core.Bool.{Bool, true, false, cond, not}
+use mathlib.Core.Logic.{_↔_}
+use mathlib.Core.List.{List}
+use native.Mathlib.Omega.{arith}
+use native.Mathlib.Nat.{add-zero}
+use native.Mathlib.Decide.{decLt}
+use lib.Dec.{ltb, eqb}
+use lib.ListN.{length, getD, take}
+use borrow.Author.Tests.{ltb-false, le-ltb, eqb-false, ne-eqb, not-false}
+use Rattle.layout.specs.Scan.{first, runOf, run}
+use Rattle.layout.specs.declared.turn.Turn.{Turn}
+use Rattle.layout.specs.declared.turn.Turn.the-variants.{Refused, More, Done}
+use Rattle.layout.specs.declared.turn.Run.{Run}
+use Rattle.layout.specs.declared.turn.Run.the-variants.{Stopped, Ended}
+use Rattle.layout.specs.Ranges.{firstEdition}
+use Rattle.layout.specs.declared.record.Record.{Record}
+use Rattle.layout.specs.Records.{blank, channelOf, badByte, firstBad}
+use Rattle.layout.specs.Sdec.{soundText}
+use Rattle.layout.specs.Answers.{refused, granted, afterRun}
+use Rattle.layout.specs.Write.{groupBytes, recordOn, recordTurn, recordsRun, groupFrom, written}
+use Rattle.layout.proofs.Scans.{first-passed, first-within, first-none}
+use Rattle.law_rounds.specs.Calls.{WholeTable, MayBeWritten}
+use Rattle.law_rounds.proofs.Granted.{if-granted, granted-once}
+use Rattle.law_rounds.proofs.Runs.{run-ran}
+
+-- ---- one record
+
+module _ (rs : List Record) (i : ℕ) where
+  -- it is in range, and no record before it has its source channel
+  abbrev Good : Type 0
+  Good = (firstBad firstEdition (getD rs i blank) ≡ 26) × ((j : ℕ) → j < i → channelOf (getD rs j blank) ≡ channelOf (getD rs i blank) → ⊥)
+
+  abbrev verdict : Bool → Bool → Turn
+  verdict a b = cond a (Refused 9 (27 * i + firstBad firstEdition (getD rs i blank))) (cond b (Refused 10 (27 * i)) More)
+
+  not-done : recordTurn firstEdition rs i ≡ Done → ⊥
+  unfolding recordTurn
+  not-done e = go (ltb (firstBad firstEdition (getD rs i blank)) 26) (ltb (recordOn firstEdition rs i (channelOf (getD rs i blank))) i) e
+    where
+      go : (a b : Bool) → verdict a b ≡ Done → ⊥
+      go true b q = let z : _≡_ {A = ℕ} 0 1 = cc in omega arith
+      go false true q = let z : _≡_ {A = ℕ} 0 1 = cc in omega arith
+      go false false q = let z : _≡_ {A = ℕ} 0 1 = cc in omega arith
+
+  in-range : ltb (firstBad firstEdition (getD rs i blank)) 26 ≡ false → firstBad firstEdition (getD rs i blank) ≡ 26
+  unfolding firstBad
+  in-range e =
+      let w : 26 ≤ first (badByte firstEdition (getD rs i blank)) 0 26 = ltb-false _ _ e in
+      omega (arith, first-within (badByte firstEdition (getD rs i blank)) 26)
+
+  own-channel : ltb (recordOn firstEdition rs i (channelOf (getD rs i blank))) i ≡ false → (j : ℕ) → j < i → channelOf (getD rs j blank) ≡ channelOf (getD rs i blank) → ⊥
+  unfolding recordOn
+  own-channel e j l =
+      let w : i ≤ first (λ j. eqb (channelOf (getD rs j blank)) (channelOf (getD rs i blank))) 0 i = ltb-false _ _ e in
+      eqb-false _ _ (first-passed (λ j. eqb (channelOf (getD rs j blank)) (channelOf (getD rs i blank))) i j (omega arith))
+
+  more-good : recordTurn firstEdition rs i ≡ More → Good
+  unfolding recordTurn
+  more-good e = go (ltb (firstBad firstEdition (getD rs i blank)) 26) (ltb (recordOn firstEdition rs i (channelOf (getD rs i blank))) i) refl refl e
+    where
+      go : (a b : Bool) → ltb (firstBad firstEdition (getD rs i blank)) 26 ≡ a → ltb (recordOn firstEdition rs i (channelOf (getD rs i blank))) i ≡ b → verdict a b ≡ More → Good
+      go true b f g q = absurd (let z : _≡_ {A = ℕ} 0 1 = cc in omega arith)
+      go false true f g q = absurd (let z : _≡_ {A = ℕ} 0 1 = cc in omega arith)
+      go false false f g q = (in-range f, own-channel g)
+
+  good-more : Good → recordTurn firstEdition rs i ≡ More
+  unfolding recordTurn recordOn
+  good-more h =
+      let none : first (λ j. eqb (channelOf (getD rs j blank)) (channelOf (getD rs i blank))) 0 i ≡ i =
+      first-none (λ j. eqb (channelOf (getD rs j blank)) (channelOf (getD rs i blank))) i (λ j l. ne-eqb _ _ (h .1 j l)) in
+      rw (h .0, none, le-ltb i i (omega arith))
+
+-- ---- all records
+
+goes-on : (turn : ℕ → Turn) (k n : ℕ) → ((i : ℕ) → i < k + n → turn i ≡ More) → runOf turn k n ≡ Ended (k + n)
+unfolding runOf
+goes-on turn k zero h = ap Ended (sym (add-zero k))
+goes-on turn k (suc n) h = rw (h k (omega arith), runOf) (goes-on turn (suc k) n (λ i l. h i (omega arith)) ∙ ap Ended (omega arith))
+
+module _ (rs : List Record) where
+  ended-good : (n : ℕ) → recordsRun firstEdition rs ≡ Ended n → (i : ℕ) → i < length rs → Good rs i
+  unfolding recordsRun
+  ended-good n e i l =
+      let r = run-ran (recordTurn firstEdition rs) (length rs) n e in
+      more-good rs i (r .goes i (go (decLt n (length rs)) (r .stops)))
+    where
+      go : Dec (n < length rs) → (n < length rs → recordTurn firstEdition rs n ≡ Done) → i < n
+      go (yes m) f = absurd (not-done rs n (f m))
+      go (no m) f = omega arith
+
+  good-ended : ((i : ℕ) → i < length rs → Good rs i) → recordsRun firstEdition rs ≡ Ended (length rs)
+  unfolding recordsRun run
+  good-ended h =
+      let z : 0 + (length rs - 0) ≡ length rs = omega arith in
+      goes-on (recordTurn firstEdition rs) 0 (length rs - 0) (λ i l. good-more rs i (h i (omega arith))) ∙ ap Ended z
+
+-- ---- the group
+
+module _ (text : List ℕ) (table : List Record) (count room : ℕ) (b : List ℕ) where
+  -- the records that are written
+  abbrev rs : List Record
+  rs = take count table
+
+  -- the group's bytes
+  abbrev own : List ℕ
+  own = groupBytes (groupFrom text table count)
+
+  -- what is granted may be written ..
+  pub written-may : WholeTable rs → written text table count room ≡ granted b → MayBeWritten text table count room b
+  unfolding written afterRun
+  written-may whole e =
+      let f = if-granted (ltb (length table) count) 16 0 _ b e in
+      let g = if-granted (not (soundText text)) 8 0 _ b (f .1) in
+      go (ltb-false _ _ (f .0)) (not-false _ (g .0)) (recordsRun firstEdition rs) refl (g .1)
+    where
+      go : count ≤ length table → soundText text ≡ true → (r : Run) → recordsRun firstEdition rs ≡ r
+          → afterRun r (λ n. cond (ltb room (length own)) (refused 14 0) (granted own)) ≡ granted b → MayBeWritten text table count room b
+      go few sound (Stopped number place) run q = absurd (let z : _≡_ {A = ℕ} 0 1 = cc in omega arith)
+      go few sound (Ended n) run q =
+          let h = if-granted (ltb room (length own)) 14 0 (granted own) b q in
+          let is : own ≡ b = granted-once own b (h .1) in
+          let good = ended-good rs n run in
+          record {
+            within = few;
+            allowed = record { text = sound; whole = whole; ranges = λ i l. good i l .0; apart = λ i j k l. good j l .1 i k };
+            bytes = sym is;
+            fits = rw (← is) (ltb-false _ _ (h .0));
+          }
+
+  -- .. and what may be written is granted
+  pub may-written : MayBeWritten text table count room b → written text table count room ≡ granted b
+  unfolding written afterRun
+  may-written h =
+      let run : recordsRun firstEdition rs ≡ Ended (length rs) = good-ended rs (λ i l. (h .allowed .ranges i l, λ j k. h .allowed .apart j i k l)) in
+      let fits : length own ≤ room = rw (h .bytes) at (h .fits) in
+      rw (le-ltb (length table) count (h .within), h .allowed .text, run, le-ltb room (length own) fits, afterRun) (ap granted (sym (h .bytes)))
+
+-- a group is written exactly where it may be
+pub written-exactly : (text : List ℕ) (table : List Record) (count room : ℕ) (b : List ℕ) → WholeTable (take count table)
+    → (written text table count room ≡ granted b) ↔ MayBeWritten text table count room b
+written-exactly text table count room b whole = (written-may text table count room b whole, may-written text table count room b)

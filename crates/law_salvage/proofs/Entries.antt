@@ -1,0 +1,118 @@
+-- What holds of each part, and so of each entry: it is not empty, and its kind is 0 exactly when it is a sound group. Proved once for bytes with no CSEG and once for a piece.
+use Prim.Native.Nat.{ℕ, zero, suc, _+_, _≤_, _<_}
+use native.Mathlib.Nat.{not-suc-le-zero, zero-lt-suc, suc-add, zero-add}
+use native.Mathlib.Omega.{arith}
+use mathlib.Core.Path.{_≡_, refl}
+use mathlib.Core.Logic.{_↔_}
+use mathlib.Core.List.{List, [], _∷_, map, append-nil, flatten, flatMap}
+use lib.ListN.{length, take, drop, length-take, length-drop}
+use lib.Seq.{length-take-le, drop-drop}
+use Rattle.layout.specs.declared.turn.Judged.{Judged}
+use Rattle.layout.specs.declared.turn.Judged.the-variants.{Unsound, Sound}
+use Rattle.layout.specs.Group.{groupSize, groupAt}
+use Rattle.layout.specs.Salvage.{front, pieces, Part, rest, listed, judged, parts, Entry, entriesFrom, salvage}
+use Rattle.layout.specs.Lists.{All}
+use Rattle.read_salvage.specs.Cut.{Free, Piece}
+use Rattle.read_salvage.proofs.Cseg.{no-true, no-cseg}
+use Rattle.read_salvage.proofs.Cut.{front-is-free, pieces-are}
+use Rattle.read_salvage.proofs.Verdicts.{size-some, size-within, sound-cseg, size-own, sound-own}
+use Rattle.read_salvage.proofs.Numbered.{refusal-some}
+use Rattle.law_salvage.specs.Salvage.{Covers, bytesOf, ReadsAsOne, SoundGroup}
+use Rattle.layout.proofs.Elements.{all-append, all-flatMap, all-so}
+use Rattle.read_salvage.proofs.Joined.{parts-joined}
+use Rattle.law_salvage.proofs.Places.{entries-cover, entries-bytes, entries-all}
+use Rattle.law_salvage.proofs.AsBody.{reads-exactly}
+
+-- ---- each part
+
+record Fact (bytes : List ℕ) (kind : ℕ) : Type 0 where
+  some : 0 < length bytes
+  exact : (kind ≡ 0) ↔ SoundGroup bytes
+
+abbrev Facts : List Part → Type 0
+Facts ps = All (λ (p : Part). Fact (p .bytes) (p .kind)) ps
+
+rest-facts : (s : List ℕ) → Free s → Facts (rest s)
+unfolding rest
+rest-facts [] f = tt
+rest-facts (b ∷ s) f = (
+  record {
+    some = zero-lt-suc (length s);
+    exact = (λ h. absurd (omega arith), λ h. absurd (no-true (f 0) (sound-cseg (b ∷ s) (h .text) (h .ctabs) (h .cntts) (h .sound))));
+  },
+  tt,
+)
+
+-- the bytes of a sound group at the start of p, by themselves
+taken-group : (p : List ℕ) (t n m : ℕ) → groupAt p ≡ Sound t n m → SoundGroup (take (groupSize p) p)
+taken-group p t n m e =
+    let l : length (take (groupSize p) p) ≡ groupSize p = length-take-le (groupSize p) p (size-within p t n m e) in
+    let z : groupSize (take (groupSize p) p) ≡ groupSize p = rw append-nil at (size-own p [] t n m e) in
+    record { text = t; ctabs = n; cntts = m; sound = rw append-nil at (sound-own p [] t n m e); whole = rw (l, z) }
+
+-- past its start a piece has no CSEG
+pub dropped-free : (p : List ℕ) → Piece p → (n : ℕ) → 0 < n → Free (drop n p)
+dropped-free p c zero h k = absurd (not-suc-le-zero h)
+dropped-free p c (suc n) h k = rw (drop-drop, suc-add) (c .only (n + k))
+
+piece-some : (p : List ℕ) → Piece p → 0 < length p
+piece-some [] c = absurd (no-cseg (c .first))
+piece-some (b ∷ p) c = zero-lt-suc (length p)
+
+listed-facts : (p : List ℕ) → Piece p → (v : Judged) → groupAt p ≡ v → Facts (listed p v)
+unfolding listed
+listed-facts p c (Sound t n m) e =
+    let l : 8 < groupSize p = size-some p t n m e in
+    let w : length (take (groupSize p) p) ≡ groupSize p = length-take-le (groupSize p) p (size-within p t n m e) in
+    (record { some = rw w (omega arith); exact = (λ _. taken-group p t n m e, λ _. refl) }, rest-facts (drop (groupSize p) p) (dropped-free p c (groupSize p) (omega arith)))
+listed-facts p c (Unsound number place) e = (
+  record {
+    some = piece-some p c;
+    exact = (λ h. absurd (omega (arith, refusal-some p number place e)), λ h. absurd (let q = h .sound in let z : _≡_ {A = ℕ} 0 1 = cc in omega arith));
+  },
+  tt,
+)
+
+judged-facts : (p : List ℕ) → Piece p → Facts (judged p)
+unfolding judged
+judged-facts p c = listed-facts p c (groupAt p) refl
+
+parts-facts : (s : List ℕ) → Facts (parts s)
+unfolding parts
+parts-facts s =
+    all-append _ (rest (front s)) (flatMap judged (pieces s)) (rest-facts (front s) (front-is-free s))
+    (all-flatMap Piece _ judged judged-facts (pieces s) (pieces-are s))
+
+-- ---- each entry
+
+-- the entries follow one another from place 0 to the body's length, and none is empty
+pub entries-cover-body : (s : List ℕ) → Covers 0 (salvage s) (length s)
+unfolding salvage
+entries-cover-body s =
+    rw (zero-add, parts-joined) at
+    (entries-cover 0 (parts s) (all-so _ _ (λ (p : Part) (h : Fact (p .bytes) (p .kind)). h .some) (parts s) (parts-facts s)))
+
+-- their bytes, one after the other, are the body
+pub entries-give-back : (s : List ℕ) → flatten (map (bytesOf s) (salvage s)) ≡ s
+unfolding salvage
+entries-give-back s =
+    let q : map (bytesOf s) (entriesFrom 0 (parts s)) ≡ map (λ (p : Part). p .bytes) (parts s) = rw parts-joined at (entries-bytes [] (parts s)) in
+    rw q (parts-joined s)
+
+entry-facts : (s : List ℕ) → All (λ (e : Entry). Fact (bytesOf s e) (e .kind)) (salvage s)
+unfolding salvage
+entry-facts s = rw parts-joined at (entries-all Fact [] (parts s) (parts-facts s))
+
+-- an entry's bytes are no more than the body's
+bytes-within : (s : List ℕ) (e : Entry) → length (bytesOf s e) ≤ length s
+unfolding bytesOf
+bytes-within s e = omega (arith, length-take (e .size) (drop (e .place) s), length-drop (e .place) s)
+
+-- an entry has kind 0 exactly when its bytes read as one group
+pub kinds-exact : (s : List ℕ) → length s ≤ 32768 → All (λ (e : Entry). (e .kind ≡ 0) ↔ ReadsAsOne (bytesOf s e)) (salvage s)
+kinds-exact s l = all-so _ _ exact (salvage s) (entry-facts s)
+  where
+    exact : (e : Entry) → Fact (bytesOf s e) (e .kind) → (e .kind ≡ 0) ↔ ReadsAsOne (bytesOf s e)
+    exact e h =
+        let r = reads-exactly (bytesOf s e) (omega (arith, bytes-within s e)) in
+        (λ z. r .0 (h .exact .0 z), λ o. h .exact .1 (r .1 o))

@@ -1,0 +1,107 @@
+-- The record of a source channel: one law for each way out of the search, and what each says of every question that is asked of a record.
+use Prim.Native.Nat.{ℕ, _+_, _*_, _≤_, _<_}
+use native.Mathlib.Omega.{arith}
+use mathlib.Core.Path.{_≡_, refl, _∙_}
+use mathlib.Core.Bool.{Bool, true, false, cond}
+use mathlib.Core.List.{List}
+use lib.Dec.{leb}
+use lib.ListN.{length}
+use borrow.Author.Tests.{le-leb, lt-leb, leb-false}
+use Rattle.layout.specs.Ranges.{firstEdition}
+use Rattle.layout.specs.Answers.{Answer, refused, granted, afterRun}
+use Rattle.layout.specs.Group.{ctabOf}
+use Rattle.layout.specs.Body.{bodyRun}
+use Rattle.layout.specs.Asked.{Row, standing, ofGroup, rowOf, rowIn, ofChannel, ofRecord, channelFound}
+use Rattle.layout.specs.declared.turn.Run.{Run}
+use Rattle.layout.specs.declared.turn.Run.the-variants.{Stopped, Ended}
+use Rattle.layout.specs.declared.answer.Standing.{Standing}
+use Rattle.read_find.specs.declared.Search.the-variants.{Refused, Missing}
+use Rattle.read_find.specs.declared.row.Sought.the-variants.{Refused as No, At}
+use Rattle.read_find.specs.Find.{groupLocated}
+use Rattle.read_find.specs.Row.{sought}
+use Rattle.read_find.proofs.AskLaws.{There, of-refused, of-missing, of-found, standing-within}
+
+-- ---- the ways out
+
+module _ (s : List ℕ) (g channel : ℕ) where
+  pub row-refused : (a b : ℕ) → groupLocated s g ≡ Refused a b → No a b ≡ sought (channelFound s g channel)
+  unfolding channelFound sought
+  row-refused a b h = rw (of-refused s g (ofChannel s (standing s g) channel (λ row. granted row)) a b h)
+
+  pub row-missing : groupLocated s g ≡ Missing → No 16 0 ≡ sought (channelFound s g channel)
+  unfolding channelFound sought
+  row-missing h = rw (of-missing s g (ofChannel s (standing s g) channel (λ row. granted row)) h)
+
+  module _ (x : Standing) (there : There s g x) (i : ℕ) (e : i ≡ ctabOf firstEdition s (x .ctabs) (x .records) channel) where
+    asked : channelFound s g channel ≡ cond (leb (x .records) i) (refused 15 0) (granted (rowOf x i))
+    unfolding channelFound ofChannel rowIn
+    asked = of-found s g _ x there ∙ rw (there .stands, e)
+
+    pub row-none : x .records ≤ i → No 15 0 ≡ sought (channelFound s g channel)
+    unfolding sought
+    row-none h = let q : channelFound s g channel ≡ refused 15 0 = asked ∙ rw (le-leb (x .records) i h) in rw q
+
+    pub row-there : i < x .records → At i (x .ctabs + 35 * i + 8) ≡ sought (channelFound s g channel)
+    unfolding sought
+    row-there h = let q : channelFound s g channel ≡ granted (rowOf x i) = asked ∙ rw (lt-leb (x .records) i h) in rw q
+
+-- ---- what is asked of the record
+
+-- what an answer about a record comes to, where something is asked of that record
+onRow : {A : Type 0} → (Row → Answer A) → Answer Row → Answer A
+onRow ask (refused number place) = refused number place
+onRow ask (granted row) = ask row
+
+module _ (s : List ℕ) (g channel : ℕ) where
+  -- the record of the channel, and whether the group has none
+  abbrev found : Row
+  found = rowOf (standing s g) (rowIn s (standing s g) channel)
+
+  abbrev lacks : Bool
+  lacks = leb (standing s g .records) (rowIn s (standing s g) channel)
+
+  module _ {A : Type 0} (ask : Row → Answer A) where
+    of-row : ofRecord s g channel ask ≡ onRow ask (channelFound s g channel)
+    unfolding channelFound ofGroup ofChannel afterRun onRow
+    of-row = go (bodyRun s)
+      where
+        two : (a b : Bool) → cond a (refused 16 0) (cond b (refused 15 0) (ask found)) ≡ onRow ask (cond a (refused 16 0) (cond b (refused 15 0) (granted found)))
+        two true b = refl
+        two false true = refl
+        two false false = refl
+
+        go : (r : Run) → afterRun r (λ n. cond (leb n g) (refused 16 0) (cond lacks (refused 15 0) (ask found))) ≡ onRow ask (afterRun r (λ n. cond (leb n g) (refused 16 0) (cond lacks (refused 15 0) (granted found))))
+        go (Stopped a b) = refl
+        go (Ended n) = two (leb n g) lacks
+
+    pub record-refused : (a b : ℕ) → sought (channelFound s g channel) ≡ No a b → ofRecord s g channel ask ≡ refused a b
+    unfolding sought onRow
+    record-refused a b h = of-row ∙ go (channelFound s g channel) h
+      where
+        go : (x : Answer Row) → sought x ≡ No a b → onRow ask x ≡ refused a b
+        go (refused c d) q = let y : c ≡ a = cc in let z : d ≡ b = cc in rw (y, z)
+        go (granted r) q = absurd (let z : _≡_ {A = ℕ} 0 1 = cc in omega arith)
+
+    pub record-there : (i at : ℕ) → sought (channelFound s g channel) ≡ At i at → ofRecord s g channel ask ≡ ask (record { index = i; at = at })
+    unfolding sought onRow
+    record-there i at h = of-row ∙ go (channelFound s g channel) h
+      where
+        go : (x : Answer Row) → sought x ≡ At i at → onRow ask x ≡ ask (record { index = i; at = at })
+        go (refused c d) q = absurd (let z : _≡_ {A = ℕ} 0 1 = cc in omega arith)
+        go (granted r) q = let y : r .index ≡ i = cc in let z : r .at ≡ at = cc in rw (← y, ← z)
+
+  -- a record that was found stands within the body
+  pub record-within : (i at : ℕ) → sought (channelFound s g channel) ≡ At i at → at + 27 ≤ length s
+  unfolding channelFound ofGroup ofChannel afterRun sought
+  record-within i at h = go (bodyRun s) refl h
+    where
+      there : (n : ℕ) → bodyRun s ≡ Ended n → (a b : Bool) → leb n g ≡ a → lacks ≡ b → sought (cond a (refused 16 0) (cond b (refused 15 0) (granted found))) ≡ At i at → at + 27 ≤ length s
+      there n e true b u v q = absurd (let z : _≡_ {A = ℕ} 0 1 = cc in omega arith)
+      there n e false true u v q = absurd (let z : _≡_ {A = ℕ} 0 1 = cc in omega arith)
+      there n e false false u v q =
+          let y : found .at ≡ at = cc in
+          omega (arith, y, standing-within s n g e (leb-false n g u) .ctabs, leb-false (standing s g .records) (rowIn s (standing s g) channel) v)
+
+      go : (r : Run) → bodyRun s ≡ r → sought (afterRun r (λ n. cond (leb n g) (refused 16 0) (cond lacks (refused 15 0) (granted found)))) ≡ At i at → at + 27 ≤ length s
+      go (Stopped a b) e q = absurd (let z : _≡_ {A = ℕ} 0 1 = cc in omega arith)
+      go (Ended n) e q = there n e (leb n g) lacks refl refl q

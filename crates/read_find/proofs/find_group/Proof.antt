@@ -1,0 +1,39 @@
+-- The body read once; the tables have what is known of its groups.
+use mathlib.Core.Path.{sym, _∙_}
+use Rattle.read_find.proofs.FindLaws.{group-refused, group-asked}
+use borrow.Author.Needs.{needs}
+use Rattle.read_find.proofs.find_group.Statement.{statement}
+use Rattle.read_find.proofs.find_group.Tie as tie
+
+read-groups-requires : tie.Need-read-groups-requires
+read-groups-requires c κs = search needs
+
+enum-known-run : tie.Need-enum-known-run
+enum-known-run c = search needs
+
+enum-known-run-2 : tie.Need-enum-known-run-2
+enum-known-run-2 c = search needs
+
+group-numbered-requires : tie.Need-group-numbered-requires
+group-numbered-requires c κs =
+    let r = c .before .before .before .before .before in
+    r .before .before .read-groups .ensures .known _ (r .run2 .given .1)
+
+returns : tie.Need-returns
+returns c = sym (group-refused _ _ _ (sym (c .before .before .before .read-groups .ensures .run) ∙ c .before .run .given .1) _)
+
+returns-2 : tie.Need-returns-2
+returns-2 c =
+    let r = c .before .before .before .before .before .before in
+    c .group-numbered .ensures ∙ sym (group-asked _ _ (sym (r .before .before .read-groups .ensures .run) ∙ r .run2 .given .1) _)
+
+pub find-group-spec : {M : Type 1} → statement M
+find-group-spec =
+    tie.close
+    (tie.spec
+    read-groups-requires
+    enum-known-run
+    enum-known-run-2
+    group-numbered-requires
+    returns
+    returns-2)

@@ -1,0 +1,52 @@
+-- The tables have what is known of the group.
+use mathlib.Core.Path.{sym}
+use native.Mathlib.Omega.{arith}
+use Rattle.read_find.proofs.FindLaws.{number-missing, number-found, entry-sound, entry-within}
+use borrow.Author.Needs.{needs}
+use Rattle.read_find.proofs.group_numbered.Statement.{statement}
+use Rattle.read_find.proofs.group_numbered.Tie as tie
+
+returns : tie.Need-returns
+returns c = sym (number-missing _ _ _ (c .if1 .taken))
+
+mul-standing-at : tie.Need-mul-standing-at
+mul-standing-at c = search needs
+
+element-copy-out-standing-at : tie.Need-element-copy-out-standing-at
+element-copy-out-standing-at c = search needs
+
+mul-standing-at-2 : tie.Need-mul-standing-at-2
+mul-standing-at-2 c = search needs
+
+element-copy-out-standing-at-2 : tie.Need-element-copy-out-standing-at-2
+element-copy-out-standing-at-2 c = search needs
+
+mul-standing-at-3 : tie.Need-mul-standing-at-3
+mul-standing-at-3 c = search needs
+
+element-copy-out-standing-at-3 : tie.Need-element-copy-out-standing-at-3
+element-copy-out-standing-at-3 c = search needs
+
+standing-at-requires : tie.Need-standing-at-requires
+standing-at-requires c κs =
+    let p = c .before .before .before .before .before .pre in
+    (entry-within _ _ _ _ _ (p .1 .0) (p .1 .1) _ (omega arith), entry-sound _ _ _ _ _ (p .1 .0) (p .1 .1) _ (omega arith))
+
+returns-2 : tie.Need-returns-2
+returns-2 c =
+    let p = c .before .before .before .before .before .before .pre in
+    sym (number-found _ _ _ _ _ (p .1 .0) (p .1 .1) _ (omega arith) _ (c .standing-at .ensures))
+
+pub group-numbered-spec : {M : Type 1} → statement M
+group-numbered-spec =
+    tie.close
+    (tie.spec
+    returns
+    mul-standing-at
+    element-copy-out-standing-at
+    mul-standing-at-2
+    element-copy-out-standing-at-2
+    mul-standing-at-3
+    element-copy-out-standing-at-3
+    standing-at-requires
+    returns-2)

@@ -1,0 +1,74 @@
+-- The group, then its Ctab with the channel: one law for each way out.
+use mathlib.Core.Path.{sym, _∙_}
+use native.Mathlib.Omega.{arith}
+use Rattle.read_find.proofs.AskLaws.{group-there-is, there-within}
+use Rattle.read_find.proofs.RowLaws.{row-refused, row-missing, row-none, row-there}
+use borrow.Author.Needs.{needs}
+use Rattle.read_find.proofs.row.find_record.Statement.{statement}
+use Rattle.read_find.proofs.row.find_record.Tie as tie
+
+find-group-requires : tie.Need-find-group-requires
+find-group-requires c κs = search needs
+
+enum-known-number : tie.Need-enum-known-number
+enum-known-number c = search needs
+
+enum-told : tie.Need-enum-told
+enum-told c = search needs
+
+enum-known-x : tie.Need-enum-known-x
+enum-known-x c = search needs
+
+find-row-requires : tie.Need-find-row-requires
+find-row-requires c κs = there-within _ _ _ (group-there-is _ _ _ _ (sym (c .before .before .before .find-group .ensures) ∙ c .before .x .given .1)) .ctabs
+
+returns : tie.Need-returns
+returns c =
+    let a = c .before .before .before .before in
+    row-none _ _ _ _ (group-there-is _ _ _ _ (sym (a .before .before .find-group .ensures) ∙ a .x .given .1)) _ (c .before .before .find-row .ensures) (c .if1 .taken)
+
+mul-t11 : tie.Need-mul-t11
+mul-t11 c =
+    let a = c .before .before .before .before in
+    let w = there-within _ _ _ (group-there-is _ _ _ _ (sym (a .before .before .find-group .ensures) ∙ a .x .given .1)) .ctabs in
+    omega arith
+
+add-t12 : tie.Need-add-t12
+add-t12 c =
+    let a = c .before .before .before .before .before in
+    let w = there-within _ _ _ (group-there-is _ _ _ _ (sym (a .before .before .find-group .ensures) ∙ a .x .given .1)) .ctabs in
+    omega arith
+
+add-t13 : tie.Need-add-t13
+add-t13 c =
+    let a = c .before .before .before .before .before in
+    let w = there-within _ _ _ (group-there-is _ _ _ _ (sym (a .before .before .find-group .ensures) ∙ a .x .given .1)) .ctabs in
+    omega arith
+
+returns-2 : tie.Need-returns-2
+returns-2 c = row-refused _ _ _ _ _ (sym (c .before .before .before .find-group .ensures) ∙ c .before .number .given .1)
+
+returns-3 : tie.Need-returns-3
+returns-3 c = row-missing _ _ _ (sym (c .before .before .find-group .ensures) ∙ c .enum-told .given .1)
+
+returns-4 : tie.Need-returns-4
+returns-4 c =
+    let a = c .before .before .before .before .before in
+    row-there _ _ _ _ (group-there-is _ _ _ _ (sym (a .before .before .find-group .ensures) ∙ a .x .given .1)) _ (c .before .before .before .find-row .ensures) (omega arith)
+
+pub find-record-spec : {M : Type 1} → statement M
+find-record-spec =
+    tie.close
+    (tie.spec
+    find-group-requires
+    enum-known-number
+    enum-told
+    enum-known-x
+    find-row-requires
+    returns
+    mul-t11
+    add-t12
+    add-t13
+    returns-2
+    returns-3
+    returns-4)

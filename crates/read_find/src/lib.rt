@@ -1,0 +1,94 @@
+// The groups of an accepted body: one by its number, one by the name of a part; and a record by its source channel.
+pub mod row;
+
+ghost use mathlib.Core.Path.{_≡_};
+ghost use Prim.Native.Nat.{_+_, _≤_};
+ghost use lib.ListN.{length, drop};
+ghost use Rattle.layout.specs.Bytes.{word};
+ghost use Rattle.layout.specs.Group.{groupAt};
+ghost use Rattle.layout.specs.Asked.{standingAt};
+ghost use Rattle.layout.specs.declared.turn.Judged.the-variants.{Sound};
+ghost use Rattle.read_met.specs.Before.{Places};
+ghost use Rattle.read_body.specs.Known.{Insides};
+ghost use Rattle.read_find.specs.Find.{numbered, groupLocated, partLocated};
+use layout::answer::Standing;
+use layout::limit::GROUPS;
+use layout::size::CTAB_STRIDE;
+use layout::turn::Run;
+use read_body::survey::read_groups;
+
+// What looking for a group comes to.
+pub enum Search {
+    // The body is refused: the number and the place.
+    Refused(u8, usize),
+    // The body has no such group.
+    Missing,
+    // Its number, and where it and its parts stand.
+    Found(usize, Standing),
+}
+
+// Where the parts of the group at `at` stand, which has so many Ctabs and Cntts.
+fn standing_at(s: &[u8], at: usize, records: u16, seconds: u16) -> Standing
+    requires { ⌜ (at ≤ length (now s)) × (groupAt (drop at (now s)) ≡ Sound (word (now s) (at + 12)) records seconds) ⌝ }
+    ensures { λ r. ⌜ r ≡ standingAt (now (s .entry)) at (groupAt (drop at (now (s .entry)))) ⌝ }
+{
+    let length = read_bytes::word_at(s, at + 12);
+    let ctabs = at + 16 + length;
+    let n = records as usize;
+    Standing {
+        at: at,
+        size: 8 + read_bytes::word_at(s, at + 4),
+        text: at + 16,
+        length: length,
+        ctabs: ctabs,
+        records: n,
+        cntts: ctabs + CTAB_STRIDE * n,
+        seconds: seconds as usize,
+    }
+}
+
+// Group number k of n, by the tables of what is known of them.
+fn group_numbered<'a>(
+    s: &[u8],
+    n: usize,
+    places: &'a [usize; GROUPS],
+    records: &'a [u16; GROUPS],
+    seconds: &'a [u16; GROUPS],
+    k: usize,
+) -> Search
+    requires { ⌜ (n ≤ 32) × (Places (now s) n (now places) × Insides (now s) n (now records) (now seconds)) ⌝ }
+    ensures { λ r. ⌜ r ≡ numbered (now (s .entry)) n k ⌝ }
+{
+    if n <= k {
+        return Search::Missing;
+    }
+    let standing = standing_at(s, places[k], records[k], seconds[k]);
+    Search::Found(k, standing)
+}
+
+// A group by its number.
+pub fn find_group(s: &[u8], group: usize) -> Search
+    ensures { λ r. ⌜ r ≡ groupLocated (now (s .entry)) group ⌝ }
+{
+    let read = read_groups(s);
+    let run = read.run;
+    match run {
+        Run::Stopped(number, place) => Search::Refused(number, place),
+        Run::Ended(n) => group_numbered(s, n, &read.places, &read.records, &read.seconds, group),
+    }
+}
+
+// A group by the name of a part.
+pub fn find_part(s: &[u8], name: &[u8]) -> Search
+    ensures { λ r. ⌜ r ≡ partLocated (now (s .entry)) (now (name .entry)) ⌝ }
+{
+    let read = read_groups(s);
+    let run = read.run;
+    match run {
+        Run::Stopped(number, place) => Search::Refused(number, place),
+        Run::Ended(n) => {
+            let k = read_met::group_named(s, n, &read.places, name);
+            group_numbered(s, n, &read.places, &read.records, &read.seconds, k)
+        }
+    }
+}

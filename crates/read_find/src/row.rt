@@ -1,0 +1,54 @@
+// The record of a source channel in a group (document 01, "Numbers of refusal": after the body, 16 for numbers, then 15).
+ghost use mathlib.Core.Path.{_≡_};
+ghost use Prim.Native.Nat.{_+_, _*_, _≤_};
+ghost use lib.ListN.{length};
+ghost use Rattle.layout.specs.Ranges.{firstEdition};
+ghost use Rattle.layout.specs.Group.{ctabOf};
+ghost use Rattle.layout.specs.Asked.{channelFound};
+ghost use Rattle.read_find.specs.Row.{sought};
+use crate::Search;
+use crate::find_group;
+use layout::record::SourceChannel;
+use layout::refusal::BAD_NUMBER;
+use layout::refusal::NOT_THERE;
+use layout::size::CTAB_STRIDE;
+
+// What looking for the record of a source channel comes to.
+pub enum Sought {
+    // The number of the refusal, and its place.
+    Refused(u8, usize),
+    // The record's number among the Ctabs of its group, and the place of its byte 0.
+    At(usize, usize),
+}
+
+// The number of the first of n Ctabs from p on that has this source channel, or n where none has.
+fn find_row(s: &[u8], p: usize, n: usize, channel: u8) -> usize
+    requires { ⌜ p + 35 * n ≤ length (now s) ⌝ }
+    ensures { λ r. ⌜ r ≡ ctabOf firstEdition (now (s .entry)) p n channel ⌝ }
+{
+    let mut i: usize = 0;
+    while i < n {
+        if s[p + CTAB_STRIDE * i + 8] == channel {
+            return i;
+        }
+        i += 1;
+    }
+    n
+}
+
+// The record of a source channel: 16 where the body has no such group, 15 where the group has no such channel.
+pub fn find_record(s: &[u8], group: usize, channel: SourceChannel) -> Sought
+    ensures { λ r. ⌜ r ≡ sought (channelFound (now (s .entry)) group (channel .0)) ⌝ }
+{
+    match find_group(s, group) {
+        Search::Refused(number, place) => Sought::Refused(number, place),
+        Search::Missing => Sought::Refused(BAD_NUMBER, 0),
+        Search::Found(_, x) => {
+            let row = find_row(s, x.ctabs, x.records, channel.0);
+            if x.records <= row {
+                return Sought::Refused(NOT_THERE, 0);
+            }
+            Sought::At(row, x.ctabs + CTAB_STRIDE * row + 8)
+        }
+    }
+}

@@ -1,0 +1,105 @@
+-- The names are passed one after the other: those before i are met and none is taken, so the answer is that of the names from i on.
+use Prim.Native.Nat.{_+_, _-_, _≤_}
+use native.Mathlib.Omega.{arith}
+use mathlib.Core.Path.{refl, sym, _∙_}
+use lib.ListN.{length}
+use borrow.Author.Needs.{needs}
+use Rattle.read_met.proofs.Texts.{text-there}
+use Rattle.read_met.proofs.Marked.{unmet-new, Passing, passing-start, passing-taken, passing-next, passing-end}
+use Rattle.read_met.proofs.is_named_before.Statement.{statement}
+use Rattle.read_met.proofs.is_named_before.Tie as tie
+
+abbrev Inv-loop : tie.InvT-loop
+Inv-loop s n places table₀ at text start end t i₀ table i = (i ≤ length t + 1) × Passing s n at t i table
+
+abbrev μ-loop : tie.MeasureT-loop
+μ-loop s n places table₀ at text start end t i₀ table i = length t + 1 - i
+
+add-start : tie.Need-add-start Inv-loop μ-loop
+add-start c = search needs
+
+add-end : tie.Need-add-end Inv-loop μ-loop
+add-end c = search needs
+
+sub-t : tie.Need-sub-t Inv-loop μ-loop
+sub-t c = search needs
+
+part-t-start : tie.Need-part-t-start Inv-loop μ-loop
+part-t-start c = search needs
+
+part-t-end : tie.Need-part-t-end Inv-loop μ-loop
+part-t-end c = search needs
+
+loop-holds : tie.Need-loop-holds Inv-loop μ-loop
+loop-holds c =
+    let p = c .before .before .pre in
+    (omega arith, passing-start _ _ _ _ _ (text-there _ _ _ _ refl (p .1 .1 .1 .0)) (p .1 .1 .0))
+
+name-end-requires : tie.Need-name-end-requires Inv-loop μ-loop
+name-end-requires c κs = search needs
+
+sub-name : tie.Need-sub-name Inv-loop μ-loop
+sub-name c = search needs
+
+part-name-start : tie.Need-part-name-start Inv-loop μ-loop
+part-name-start c = search needs
+
+part-name-end : tie.Need-part-name-end Inv-loop μ-loop
+part-name-end c = search needs
+
+mark-of-requires : tie.Need-mark-of-requires Inv-loop μ-loop
+mark-of-requires c κs = search needs
+
+meet-requires : tie.Need-meet-requires Inv-loop μ-loop
+meet-requires c κs = (c .before .before .before .before .before .loop .inv .1 .known .size, c .mark-of .ensures .1)
+
+is-taken-requires : tie.Need-is-taken-requires Inv-loop μ-loop
+is-taken-requires c κs =
+    let p = c .before .before .before .before .before .before .before .before .before .pre in
+    let l = c .before .before .before .before .before .before .loop in
+    (p .0, (p .1 .0, unmet-new _ _ _ (l .inv .1 .known) _ _ _ _ (c .before .mark-of .ensures .0) (c .meet .ensures)))
+
+returns : tie.Need-returns Inv-loop μ-loop
+returns c =
+    let l = c .before .before .before .before .before .before .before .before .loop in
+    passing-taken _ _ _ _ _ _ (l .inv .1) _ (c .before .before .before .before .before .before .name-end .ensures) _ (sym (c .if1 .taken) ∙ c .before .is-taken .ensures)
+
+add-i : tie.Need-add-i Inv-loop μ-loop
+add-i c = search needs
+
+loop-less : tie.Need-loop-less Inv-loop μ-loop
+loop-less c = search needs
+
+loop-again : tie.Need-loop-again Inv-loop μ-loop
+loop-again c =
+    let l = c .before .before .before .before .before .before .before .before .loop in
+    let ends = c .before .before .before .before .before .before .name-end .ensures in
+    (omega (arith, ends .within), passing-next _ _ _ _ _ _ (l .inv .1) _ ends _ _ _ (c .before .before .before .mark-of .ensures .0) (c .before .before .meet .ensures) (sym (c .if1 .left) ∙ c .before .is-taken .ensures))
+
+returns-2 : tie.Need-returns-2 Inv-loop μ-loop
+returns-2 c = passing-end _ _ _ _ _ _ (c .before .loop .inv .1) (omega arith)
+
+pub is-named-before-spec : {M : Type 1} → statement M
+is-named-before-spec =
+    tie.close
+    (tie.spec
+    Inv-loop
+    μ-loop
+    add-start
+    add-end
+    sub-t
+    part-t-start
+    part-t-end
+    loop-holds
+    name-end-requires
+    sub-name
+    part-name-start
+    part-name-end
+    mark-of-requires
+    meet-requires
+    is-taken-requires
+    returns
+    add-i
+    loop-less
+    loop-again
+    returns-2)

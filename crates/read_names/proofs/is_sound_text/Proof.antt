@@ -1,0 +1,117 @@
+-- The names before i keep the rules, are all different, and are known by where they end; one law for each way out.
+use Prim.Native.Nat.{_+_, _*_, _-_, _≤_}
+use native.Mathlib.Omega.{arith}
+use mathlib.Core.Path.{_≡_, sym, _∙_}
+use lib.ListN.{length, take}
+use borrow.Author.Needs.{needs}
+use Rattle.read_names.proofs.Rules.{inside-low, inside-high, ends-grow, Kept, kept-none, kept-more, text-long, text-bytes, text-size, text-again, text-sound}
+use Rattle.read_names.proofs.is_sound_text.Statement.{statement}
+use Rattle.read_names.proofs.is_sound_text.Tie as tie
+
+abbrev Inv-loop : tie.InvT-loop
+Inv-loop t ends₀ m₀ i₀ ends m i = (i ≤ length t + 1) × ((2 * m ≤ i) × ((i ≤ 17 * m) × ((length ends ≡ 128) × Kept t (take m ends) i)))
+
+abbrev μ-loop : tie.MeasureT-loop
+μ-loop t ends₀ m₀ i₀ ends m i = length t + 1 - i
+
+returns : tie.Need-returns Inv-loop μ-loop
+returns c = sym (text-long _ (omega arith))
+
+loop-holds : tie.Need-loop-holds Inv-loop μ-loop
+loop-holds c = (search needs, (search needs, (search needs, (search needs, kept-none _))))
+
+checked-end-requires : tie.Need-checked-end-requires Inv-loop μ-loop
+checked-end-requires c κs = search needs
+
+returns-2 : tie.Need-returns-2 Inv-loop μ-loop
+returns-2 c =
+    let l = c .before .before .before .loop in
+    sym (text-bytes _ _ _ (l .inv .1 .1 .1 .1) (c .before .checked-end .ensures .out (omega arith)))
+
+returns-3 : tie.Need-returns-3 Inv-loop μ-loop
+returns-3 c =
+    let l = c .before .before .before .before .loop in
+    let h = c .before .before .checked-end .ensures .ends (omega arith) in
+    sym (text-size _ _ _ (l .inv .1 .1 .1 .1) _ h (inside-low 1 16 _ (omega arith)))
+
+sub-if4 : tie.Need-sub-if4 Inv-loop μ-loop
+sub-if4 c = search needs
+
+returns-4 : tie.Need-returns-4 Inv-loop μ-loop
+returns-4 c =
+    let l = c .before .before .before .before .before .loop in
+    let h = c .before .before .before .checked-end .ensures .ends (omega arith) in
+    sym (text-size _ _ _ (l .inv .1 .1 .1 .1) _ h (inside-high 1 16 _ (omega arith)))
+
+sub-is-again : tie.Need-sub-is-again Inv-loop μ-loop
+sub-is-again c = search needs
+
+part-is-again-start : tie.Need-part-is-again-start Inv-loop μ-loop
+part-is-again-start c = search needs
+
+part-is-again-end : tie.Need-part-is-again-end Inv-loop μ-loop
+part-is-again-end c = search needs
+
+is-again-requires : tie.Need-is-again-requires Inv-loop μ-loop
+is-again-requires c κs =
+    let l = c .before .before .before .before .before .before .before .loop in
+    (l .inv .1 .1 .1 .0, (omega arith, l .inv .1 .1 .1 .1 .placed))
+
+returns-5 : tie.Need-returns-5 Inv-loop μ-loop
+returns-5 c =
+    let l = c .before .before .before .before .before .before .before .before .before .loop in
+    let h = c .before .before .before .before .before .before .before .checked-end .ensures .ends (omega arith) in
+    sym (text-again _ _ _ (l .inv .1 .1 .1 .1) _ h (sym (c .before .is-again .ensures) ∙ c .if5 .taken))
+
+cast-ends : tie.Need-cast-ends Inv-loop μ-loop
+cast-ends c = search needs
+
+array-write-ends : tie.Need-array-write-ends Inv-loop μ-loop
+array-write-ends c = search needs
+
+add-m : tie.Need-add-m Inv-loop μ-loop
+add-m c = search needs
+
+add-i : tie.Need-add-i Inv-loop μ-loop
+add-i c = search needs
+
+loop-less : tie.Need-loop-less Inv-loop μ-loop
+loop-less c = search needs
+
+loop-again : tie.Need-loop-again Inv-loop μ-loop
+loop-again c =
+    let l = c .before .before .before .before .before .before .before .before .before .loop in
+    let r = c .before .before .before .before .before .before .before .checked-end in
+    let n = kept-more _ _ _ (l .inv .1 .1 .1 .1) _ (r .ensures .ends (omega arith)) (r .ensures .bytes (omega arith)) (omega arith) (omega arith) (sym (c .before .is-again .ensures) ∙ c .if5 .left) in
+    (omega arith, (omega arith, (omega arith, (search needs, rw (ends-grow (l .ends) (l .m) (r .result) (omega arith)) n))))
+
+returns-6 : tie.Need-returns-6 Inv-loop μ-loop
+returns-6 c =
+    let l = c .before .loop in
+    sym (text-sound _ _ _ (l .inv .1 .1 .1 .1) (omega arith) (omega arith) (omega arith))
+
+pub is-sound-text-spec : {M : Type 1} → statement M
+is-sound-text-spec =
+    tie.close
+    (tie.spec
+    Inv-loop
+    μ-loop
+    returns
+    loop-holds
+    checked-end-requires
+    returns-2
+    returns-3
+    sub-if4
+    returns-4
+    sub-is-again
+    part-is-again-start
+    part-is-again-end
+    is-again-requires
+    returns-5
+    cast-ends
+    array-write-ends
+    add-m
+    add-i
+    loop-less
+    loop-again
+    returns-6)

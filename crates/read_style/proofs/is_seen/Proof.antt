@@ -1,0 +1,92 @@
+-- What is still to be looked at are the sections from number k on, which stands at `place`. k goes up.
+use Prim.Native.Nat.{_-_, _≤_}
+use mathlib.Core.Path.{_≡_, refl, sym}
+use native.Mathlib.Omega.{arith}
+use Rattle.layout.specs.Scan.{first}
+use Rattle.layout.specs.Bytes.{four}
+use Rattle.layout.specs.Style.{sectionPlace, sectionTagged}
+use Rattle.read_style.proofs.SectionLaws.{hasTag, place-start, place-next, fit-at, seen-here, seen-next, seen-none}
+use borrow.Author.Needs.{needs}
+use Rattle.read_style.proofs.is_seen.Statement.{statement}
+use Rattle.read_style.proofs.is_seen.Tie as tie
+
+abbrev Inv-loop : tie.InvT-loop
+Inv-loop file start n tag k₀ place₀ k place =
+    (k ≤ n) × ((place ≡ sectionPlace file k) × (sectionTagged file n (four tag) ≡ first (hasTag file (four tag)) k n))
+
+abbrev μ-loop : tie.MeasureT-loop
+μ-loop file start n tag k₀ place₀ k place = n - k
+
+loop-holds : tie.Need-loop-holds Inv-loop μ-loop
+unfolding sectionTagged
+loop-holds c = (omega arith, (place-start _ _ (c .before .pre .0), refl))
+
+word-at-requires : tie.Need-word-at-requires Inv-loop μ-loop
+word-at-requires c κs =
+    let l = c .before .loop in
+    omega (arith, fit-at _ (l .k) _ (l .inv .1 .0) _ (c .before .before .before .pre .1 .0) (omega arith))
+
+returns : tie.Need-returns Inv-loop μ-loop
+returns c =
+    let l = c .before .before .before .loop in
+    let p = c .before .before .before .before .before .pre in
+    sym (seen-here _ _ _ _ (l .inv .1 .1) _ _ (l .inv .1 .0) (c .before .word-at .ensures .1 .0) (c .before .word-at .ensures .1 .1) (p .1 .1) (omega arith) (c .if1 .taken))
+
+add-place : tie.Need-add-place Inv-loop μ-loop
+add-place c =
+    let l = c .before .before .before .loop in
+    omega (arith, fit-at _ (l .k) _ (l .inv .1 .0) _ (c .before .before .before .before .before .pre .1 .0) (omega arith))
+
+add-word-at : tie.Need-add-word-at Inv-loop μ-loop
+add-word-at c =
+    let l = c .before .before .before .loop in
+    omega (arith, fit-at _ (l .k) _ (l .inv .1 .0) _ (c .before .before .before .before .before .pre .1 .0) (omega arith))
+
+word-at-requires-2 : tie.Need-word-at-requires-2 Inv-loop μ-loop
+word-at-requires-2 c κs =
+    let l = c .before .before .before .loop in
+    omega (arith, fit-at _ (l .k) _ (l .inv .1 .0) _ (c .before .before .before .before .before .pre .1 .0) (omega arith))
+
+add-place-2 : tie.Need-add-place-2 Inv-loop μ-loop
+add-place-2 c =
+    let l = c .before .before .before .before .loop in
+    omega (arith, fit-at _ (l .k) _ (l .inv .1 .0) _ (c .before .before .before .before .before .before .pre .1 .0) (omega arith), c .word-at2 .ensures .0)
+
+add-k : tie.Need-add-k Inv-loop μ-loop
+add-k c = search needs
+
+loop-less : tie.Need-loop-less Inv-loop μ-loop
+loop-less c = search needs
+
+loop-again : tie.Need-loop-again Inv-loop μ-loop
+loop-again c =
+    let b = c .before .before in
+    let l = b .before .before .loop in
+    let p = b .before .before .before .before .pre in (
+      omega arith,
+      (
+        place-next _ _ _ (l .inv .1 .0) _ (c .word-at2 .ensures .0),
+        seen-next _ _ _ _ (l .inv .1 .1) _ _ (l .inv .1 .0) (b .word-at .ensures .1 .0) (b .word-at .ensures .1 .1) (p .1 .1) (omega arith) (c .before .if1 .left),
+      ),
+    )
+
+returns-2 : tie.Need-returns-2 Inv-loop μ-loop
+returns-2 c = sym (seen-none _ _ _ _ (c .before .loop .inv .1 .1) (omega arith))
+
+pub is-seen-spec : {M : Type 1} → statement M
+is-seen-spec =
+    tie.close
+    (tie.spec
+    Inv-loop
+    μ-loop
+    loop-holds
+    word-at-requires
+    returns
+    add-place
+    add-word-at
+    word-at-requires-2
+    add-place-2
+    add-k
+    loop-less
+    loop-again
+    returns-2)

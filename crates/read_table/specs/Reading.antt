@@ -1,0 +1,33 @@
+-- What a plan for reading a group's records says: the answer, and where the records stand in the body.
+use Prim.Native.Nat.{ℕ, _+_, _*_, _≤_}
+use mathlib.Core.Path.{_≡_}
+use mathlib.Core.List.{List, []}
+use lib.ListN.{length}
+use Rattle.layout.specs.Lists.{rows}
+use Rattle.layout.specs.Answers.{numberOf, placeOf, valueOr}
+use Rattle.layout.specs.Group.{recordAt}
+use Rattle.layout.specs.Asked.{recordsRead}
+use Rattle.layout.specs.declared.record.Record.{Record}
+use Rattle.layout.specs.declared.answer.Counted.{Counted}
+use Rattle.read_table.specs.declared.Reading.{Reading}
+
+-- "on refusal counts and lengths are 0, other result fields are 0": there is nothing to read
+abbrev pub noReading : ℕ → ℕ → Reading
+noReading number place = record { number = number; place = place; count = 0; ctabs = 0; cntts = 0; seconds = 0 }
+
+-- the answer of a plan
+abbrev pub toldOf : Reading → Counted
+toldOf r = record { number = r .number; place = r .place; count = r .count }
+
+-- the records that a plan names
+abbrev pub planned : List ℕ → Reading → ℕ → Record
+planned s r i = recordAt s (r .ctabs) (r .cntts) (r .seconds) i
+
+-- refused, or accepted with so many records; each is read off the body where it stands; on refusal there is none
+pub record ReadingPlanned (s : List ℕ) (group room : ℕ) (r : Reading) : Type 0 where
+  pub number : r .number ≡ numberOf (recordsRead s group room)
+  pub place : r .place ≡ placeOf (recordsRead s group room)
+  pub records : valueOr [] (recordsRead s group room) ≡ rows (planned s r) 0 (r .count)
+  pub fits : r .count ≤ room
+  pub ctabs : r .ctabs + 35 * r .count ≤ length s
+  pub cntts : r .cntts + 10 * r .seconds ≤ length s

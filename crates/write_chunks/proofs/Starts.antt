@@ -1,0 +1,23 @@
+-- The start of a group by its plan: nothing on refusal, else the group's header and its Sdec.
+use Prim.Native.Nat.{ℕ, _+_, _-_}
+use mathlib.Core.Path.{_≡_, refl, _∙_, ap}
+use mathlib.Core.List.{List, _++_}
+use native.Mathlib.Omega.{arith}
+use lib.ListN.{length, drop}
+use borrow.Author.Tests.{eq-eqb, ne-eqb}
+use Rattle.layout.specs.Bytes.{CSEG, Sdec, four, chunk}
+use Rattle.layout.specs.Edit.{replaced}
+use Rattle.write_plan.specs.declared.Plan.{Plan}
+use Rattle.write_plan.specs.Checking.{startPlace, startBytes}
+
+module _ (text out : List ℕ) (p : Plan) where
+  pub start-none : (p .number ≡ 0 → ⊥) → (0 ≡ startPlace text p) × (out ≡ replaced out 0 (startBytes text p))
+  unfolding startPlace startBytes replaced
+  start-none h = rw (ne-eqb (p .number) 0 h) (refl, refl)
+
+  pub start-put : (last : List ℕ) → p .number ≡ 0 → last ≡ CSEG ++ (four (p .length - 8) ++ (chunk Sdec text ++ drop (16 + length text) out))
+      → (16 + length text ≡ startPlace text p) × (last ≡ replaced out 0 (startBytes text p))
+  unfolding startPlace startBytes replaced chunk four
+  start-put last z e =
+      let q : 16 + length text ≡ 0 + length (CSEG ++ (four (p .length - 8) ++ chunk Sdec text)) = omega arith in
+      rw (eq-eqb (p .number) 0 z) (refl, e ∙ ap (λ (k : ℕ). CSEG ++ (four (p .length - 8) ++ (chunk Sdec text ++ drop k out))) q)

@@ -1,0 +1,82 @@
+// The chunk writers: each writes at the start of what it is lent and lends on the tail behind its header.
+ghost use mathlib.Core.Path.{_≡_};
+ghost use mathlib.Core.List.{[], _∷_, _++_};
+ghost use Prim.Native.Nat.{_+_, _≤_};
+ghost use lib.ListN.{length, drop};
+ghost use Rattle.layout.specs.Bytes.{CSEG, Sdec, Ctab, four, chunk};
+ghost use Rattle.layout.specs.declared.record.SecondTable.the-variants.{Value};
+ghost use Rattle.layout.specs.Edit.{replaced};
+ghost use Rattle.layout.specs.Write.{cnttBytes};
+ghost use Rattle.write_plan.specs.Chunks.{chunkOf};
+use crate::put::put_bytes;
+use crate::put::put_head;
+use crate::put::put_held;
+use layout::record::Record;
+use layout::record::SecondTable;
+use layout::size::CNTT_BYTES;
+use layout::size::CNTT_STRIDE;
+use layout::size::CTAB_STRIDE;
+use layout::size::RECORD;
+use layout::tag::CNTT;
+use layout::tag::CSEG;
+use layout::tag::CTAB;
+use layout::tag::SDEC;
+use read_record::held::bytes_of;
+
+// An Sdec: its text behind its header.
+fn put_sdec(out: &mut [u8], text: &[u8])
+    requires { ⌜ 8 + length (now text) ≤ length (now out) ⌝ }
+    ensures { λ _. ⌜ now (out .exit) ≡ chunk Sdec (now (text .entry)) ++ drop (8 + length (now (text .entry))) (now (out .entry)) ⌝ }
+{
+    put_head(out, SDEC, text.len());
+    put_bytes(&mut out[8..], text);
+}
+
+// A group's header, for a payload of `size` bytes, and the Sdec in what is left.
+pub fn put_front(out: &mut [u8], text: &[u8], size: usize)
+    requires { ⌜ 16 + length (now text) ≤ length (now out) ⌝ }
+    ensures { λ _. ⌜ now (out .exit) ≡ CSEG ++ (four size ++ (chunk Sdec (now (text .entry)) ++ drop (16 + length (now (text .entry))) (now (out .entry)))) ⌝ }
+{
+    put_head(out, CSEG, size);
+    put_sdec(&mut out[8..], text);
+}
+
+// A Ctab: a record behind its header, from its bytes 0-25.
+pub fn put_ctab(out: &mut [u8], b: &[u8])
+    requires { ⌜ (length (now b) ≡ 26) × (35 ≤ length (now out)) ⌝ }
+    ensures { λ _. ⌜ now (out .exit) ≡ chunk Ctab (now (b .entry) ++ (0 ∷ [])) ++ drop 35 (now (out .entry)) ⌝ }
+{
+    put_head(out, CTAB, RECORD);
+    put_held(&mut out[8..], b);
+}
+
+// A Cntt: a source channel and a table value behind its header.
+pub fn put_cntt(out: &mut [u8], channel: u8, v: u8)
+    requires { ⌜ 10 ≤ length (now out) ⌝ }
+    ensures { λ _. ⌜ now (out .exit) ≡ cnttBytes channel (Value v) ++ drop 10 (now (out .entry)) ⌝ }
+{
+    put_head(out, CNTT, CNTT_BYTES);
+    out[8] = channel;
+    out[9] = v;
+}
+
+// The chunk of a record at `at`, and the place behind it: its Ctab, or, where `seconds`, its Cntt if it has one.
+pub fn put_chunk(out: &mut [u8], at: usize, r: Record, seconds: bool) -> usize
+    requires { ⌜ at + length (chunkOf seconds r) ≤ length (now out) ⌝ }
+    ensures { λ m. ⌜ (m ≡ at + length (chunkOf seconds r)) × (now (out .exit) ≡ replaced (now (out .entry)) at (chunkOf seconds r)) ⌝ }
+{
+    if !seconds {
+        let b = bytes_of(r);
+        put_ctab(&mut out[at..], &b);
+        return at + CTAB_STRIDE;
+    }
+    let source = r.source;
+    let second = r.second;
+    match second {
+        SecondTable::Absent => at,
+        SecondTable::Value(v) => {
+            put_cntt(&mut out[at..], source.0, v);
+            at + CNTT_STRIDE
+        }
+    }
+}

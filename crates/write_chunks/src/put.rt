@@ -1,0 +1,54 @@
+// What chunks are made of: bytes, a header, a record. Each writer writes at the start of what it is lent.
+ghost use mathlib.Core.Path.{_≡_};
+ghost use mathlib.Core.List.{_∷_, _++_};
+ghost use Prim.Native.Nat.{_≤_};
+ghost use lib.ListN.{length, drop};
+ghost use Rattle.layout.specs.Bytes.{four};
+ghost use Rattle.layout.specs.Records.{fileBytes};
+use layout::record::Record;
+use read_record::held::bytes_of;
+
+// These bytes.
+pub fn put_bytes(out: &mut [u8], b: &[u8])
+    requires { ⌜ length (now b) ≤ length (now out) ⌝ }
+    ensures { λ _. ⌜ now (out .exit) ≡ now (b .entry) ++ drop (length (now (b .entry))) (now (out .entry)) ⌝ }
+{
+    let mut i: usize = 0;
+    while i < b.len() {
+        out[i] = b[i];
+        i += 1;
+    }
+}
+
+// A chunk's header: four tag bytes and a length, high byte first.
+pub fn put_head(out: &mut [u8], tag: usize, size: usize)
+    requires { ⌜ 8 ≤ length (now out) ⌝ }
+    ensures { λ _. ⌜ now (out .exit) ≡ four tag ++ (four size ++ drop 8 (now (out .entry))) ⌝ }
+{
+    out[0] = (tag / 16777216 % 256) as u8;
+    out[1] = (tag / 65536 % 256) as u8;
+    out[2] = (tag / 256 % 256) as u8;
+    out[3] = (tag % 256) as u8;
+    out[4] = (size / 16777216 % 256) as u8;
+    out[5] = (size / 65536 % 256) as u8;
+    out[6] = (size / 256 % 256) as u8;
+    out[7] = (size % 256) as u8;
+}
+
+// The 27 bytes of a record from its bytes 0-25; byte 26 is always written as 00.
+pub fn put_held(out: &mut [u8], b: &[u8])
+    requires { ⌜ (length (now b) ≡ 26) × (27 ≤ length (now out)) ⌝ }
+    ensures { λ _. ⌜ now (out .exit) ≡ now (b .entry) ++ (0 ∷ drop 27 (now (out .entry))) ⌝ }
+{
+    put_bytes(out, b);
+    out[26] = 0;
+}
+
+// The 27 bytes of a record.
+pub fn put_record(out: &mut [u8], r: Record)
+    requires { ⌜ 27 ≤ length (now out) ⌝ }
+    ensures { λ _. ⌜ now (out .exit) ≡ fileBytes r ++ drop 27 (now (out .entry)) ⌝ }
+{
+    let b = bytes_of(r);
+    put_held(out, &b);
+}

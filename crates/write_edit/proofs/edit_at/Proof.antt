@@ -1,0 +1,75 @@
+-- One law for each way out; what is lent to the record's writer is the body from its place on.
+use native.Mathlib.Omega.{arith}
+use Rattle.layout.specs.Records.{channelOf}
+use Rattle.write_edit.proofs.Editing.{at-other, at-out, at-put}
+use borrow.Author.Needs.{needs}
+use Rattle.write_edit.proofs.edit_at.Statement.{statement}
+use Rattle.write_edit.proofs.edit_at.Tie as tie
+
+answer-requires : tie.Need-answer-requires
+answer-requires c κs = search needs
+
+returns : tie.Need-returns
+unfolding channelOf
+returns c = at-other _ _ _ _ _ (c .answer .ensures) (c .before .if1 .taken)
+
+bytes-of-requires : tie.Need-bytes-of-requires
+bytes-of-requires c κs = search needs
+
+slice-aggregate-first-out : tie.Need-slice-aggregate-first-out
+slice-aggregate-first-out c = search needs
+
+first-out-requires : tie.Need-first-out-requires
+first-out-requires c κs = search needs
+
+answer-requires-2 : tie.Need-answer-requires-2
+answer-requires-2 c κs = search needs
+
+returns-2 : tie.Need-returns-2
+unfolding channelOf
+returns-2 c =
+    at-out _ _ _ _ (c .before .before .before .before .before .if1 .left) _ (c .before .before .before .before .bytes-of .ensures) _ (c .before .before .first-out .ensures) _ (c .answer2 .ensures) (omega (arith, c .before .if2 .taken))
+
+sub-put-record : tie.Need-sub-put-record
+sub-put-record c = search needs
+
+part-put-record-start : tie.Need-part-put-record-start
+part-put-record-start c = search needs
+
+part-put-record-end : tie.Need-part-put-record-end
+part-put-record-end c = search needs
+
+put-record-requires : tie.Need-put-record-requires
+put-record-requires c κs = search needs
+
+answer-requires-3 : tie.Need-answer-requires-3
+answer-requires-3 c κs = search needs
+
+same-length : tie.Need-same-length
+same-length c = search needs
+
+returns-3 : tie.Need-returns-3
+unfolding channelOf
+returns-3 c =
+    let e = c .before .before .before .before .before in
+    let start = c .before .before .before .before .before .before .before .before .before .before .before .before .before .before in
+    at-put _ _ _ _ (e .before .before .before .before .if1 .left) _ (e .before .before .before .bytes-of .ensures) _ (e .before .first-out .ensures) _ (c .before .before .before .put-record .last .0) (c .answer3 .ensures) (omega (arith, e .if2 .left)) (omega (arith, start .pre)) (c .before .before .before .put-record .ensures)
+
+pub edit-at-spec : {M : Type 1} → statement M
+edit-at-spec =
+    tie.close
+    (tie.spec
+    answer-requires
+    returns
+    bytes-of-requires
+    slice-aggregate-first-out
+    first-out-requires
+    answer-requires-2
+    returns-2
+    sub-put-record
+    part-put-record-start
+    part-put-record-end
+    put-record-requires
+    answer-requires-3
+    same-length
+    returns-3)

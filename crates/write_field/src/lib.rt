@@ -1,0 +1,39 @@
+// The editing screen (document 01, "Writing and editing"): one field byte of a record set, all other fields kept.
+ghost use Rattle.layout.specs.Promises.{FieldSet};
+use layout::answer::Changed;
+use layout::record::Record;
+use layout::refusal::BAD_NUMBER;
+use layout::refusal::OUT_OF_RANGE;
+use layout::size::HELD;
+use read_record::held::bytes_of;
+use read_record::held::record_of;
+use read_record::is_out;
+
+// The record with one byte set; the Cntt is kept.
+pub fn set_field(r: Record, index: usize, value: u8) -> Changed
+    ensures { λ c. ⌜ FieldSet r index value c ⌝ }
+{
+    if HELD <= index {
+        return Changed {
+            number: BAD_NUMBER,
+            place: 0,
+            held: r,
+        };
+    }
+    if is_out(index, value) {
+        return Changed {
+            number: OUT_OF_RANGE,
+            place: index,
+            held: r,
+        };
+    }
+    let second = r.second;
+    let mut b = bytes_of(r);
+    b[index] = value;
+    let held = record_of(&b, second);
+    Changed {
+        number: 0,
+        place: 0,
+        held: held,
+    }
+}

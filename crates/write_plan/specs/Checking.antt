@@ -1,0 +1,87 @@
+-- What the records looked at so far come to: a refusal, or which source channels they have (a bit for each) and the group's length so far.
+use Prim.Native.Nat.{ℕ, zero, suc, _+_, _*_, _-_, _^_, _<_, _≤_}
+use mathlib.Core.Bool.{cond, not}
+use mathlib.Core.List.{List, [], _++_}
+use lib.Bits.{bitOr}
+use lib.Dec.{ltb, eqb}
+use lib.ListN.{length, getD}
+use Rattle.layout.specs.declared.answer.Measured.{Measured}
+use Rattle.layout.specs.declared.record.Record.{Record}
+use Rattle.layout.specs.declared.record.SecondTable.{SecondTable}
+use Rattle.layout.specs.declared.record.SecondTable.the-variants.{Absent, Value}
+use Rattle.layout.specs.Bytes.{CSEG, Sdec, four, chunk}
+use Rattle.layout.specs.Refusals.{accepted, badText, outOfRange, channelAgain, noRoom, badNumber}
+use Rattle.layout.specs.Plays.{bit}
+use Rattle.layout.specs.Ranges.{firstEdition}
+use Rattle.layout.specs.Records.{blank, channelOf, firstBad}
+use Rattle.layout.specs.Sdec.{soundText}
+use Rattle.write_plan.specs.declared.Checked.{Checked}
+use Rattle.write_plan.specs.declared.Plan.{Plan}
+
+-- a refusal: no record is to be looked at
+unfoldable pub refusedAt : ℕ → ℕ → Checked
+refusedAt number place = record { number = number; place = place; records = 0; length = 0; seen = 0 }
+
+-- before the first of the records of a lent table of so many: 16, then 8
+unfoldable pub begun : List ℕ → ℕ → ℕ → Checked
+begun text lent count =
+    cond (ltb lent count) (refusedAt badNumber 0)
+    (cond (not (soundText text)) (refusedAt badText 0)
+    (record { number = accepted; place = 0; records = count; length = 16 + length text; seen = 0 }))
+
+-- the bytes of a record's chunks: its Ctab, and its Cntt where it has one
+unfoldable pub chunksSize : SecondTable → ℕ
+chunksSize Absent = 35
+chunksSize (Value v) = 45
+
+-- more records than any memory lends: a slice has fewer than 2^63 bytes, and a record or a row takes 28 of them or more
+abbrev pub recordsNever : ℕ
+recordsNever = 340000000000000000
+
+-- where record number i is looked at next: memory lends that many, and what is seen is no longer than a group with a text of 255 bytes and i records with their Cntts
+abbrev pub Looking : Checked → ℕ → Type 0
+Looking x i = (i < recordsNever) × (x .length ≤ 271 + 45 * i)
+
+-- record number i looked at: 9, then 10; a refusal stays
+unfoldable pub looked : Checked → ℕ → Record → Checked
+looked x i r =
+    cond (not (eqb (x .number) accepted)) x
+    (cond (ltb (firstBad firstEdition r) 26) (refusedAt outOfRange (27 * i + firstBad firstEdition r))
+    (cond (bit (x .seen) (channelOf r)) (refusedAt channelAgain (27 * i))
+    (record { number = accepted; place = 0; records = x .records; length = x .length + chunksSize (r .second); seen = bitOr (x .seen) (2 ^ channelOf r) })))
+
+-- the first n records looked at
+unfoldable pub lookedAt : Checked → List Record → ℕ → Checked
+lookedAt x rs zero = x
+lookedAt x rs (suc n) = looked (lookedAt x rs n) n (getD rs n blank)
+
+-- a plan that refuses
+unfoldable pub noPlan : ℕ → ℕ → Plan
+noPlan number place = record { number = number; place = place; records = 0; length = 0 }
+
+-- all records looked at, and so much room: 14 comes last
+unfoldable pub planned : Checked → ℕ → Plan
+planned x room =
+    cond (not (eqb (x .number) accepted)) (noPlan (x .number) (x .place))
+    (cond (ltb room (x .length)) (noPlan noRoom 0)
+    (record { number = accepted; place = 0; records = x .records; length = x .length }))
+
+-- the answer of a plan
+unfoldable pub measuredBy : Plan → Measured
+measuredBy p = record { number = p .number; place = p .place; length = p .length }
+
+-- ---- what the plan writes before the records' chunks
+
+-- the place where they go
+unfoldable pub startPlace : List ℕ → Plan → ℕ
+startPlace text p = cond (eqb (p .number) accepted) (16 + length text) 0
+
+-- the group's header and its Sdec; nothing on refusal
+unfoldable pub startBytes : List ℕ → Plan → List ℕ
+startBytes text p = cond (eqb (p .number) accepted) (CSEG ++ (four (p .length - 8) ++ chunk Sdec text)) []
+
+-- the plan for a text, a lent table, a count and so much room
+unfoldable pub planOf : List ℕ → List Record → ℕ → ℕ → Plan
+planOf text rs count room =
+    let x = begun text (length rs) count in
+    planned (lookedAt x rs (x .records)) room
