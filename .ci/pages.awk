@@ -93,9 +93,9 @@ kind == "specs" && def != "" { text = text "\n" $0 }
 # ---- functions
 
 kind == "src" && /^(pub |ghost )*use / { import($0) }
-kind == "src" && /^pub use [a-z_]+::[a-z_]+;/ && crate == "casm" {
+kind == "src" && /^pub use [a-z_:]+;/ && crate == "casm" {
     name = $0; sub(/^pub use /, "", name); sub(/;.*/, "", name)
-    split(name, part, "::"); passed[base "::" part[2]] = name
+    n = split(name, part, "::"); passed[base "::" part[n]] = part[1] "::" part[n]
 }
 kind == "src" && /^\/\/ / { comment = comment (comment == "" ? "" : " ") substr($0, 4) }
 kind == "src" && /^ *$/ { comment = "" }

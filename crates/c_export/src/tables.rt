@@ -1,7 +1,7 @@
 // Whole groups through flat tables: written from one, and read into one (document 01, "Writing and editing").
 ghost use Rattle.layout.specs.Promises.{GroupWritten};
 ghost use Rattle.c_export.specs.Crossing.{measured, counted};
-ghost use Rattle.c_flat.specs.Flat.{tableOf, RowsRead};
+ghost use Rattle.c_row.specs.Flat.{tableOf, RowsRead};
 use crate::answer::Count;
 use crate::answer::Length;
 

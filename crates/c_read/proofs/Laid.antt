@@ -14,7 +14,7 @@ use Rattle.layout.proofs.Records.{bytes-length}
 use Rattle.write_chunks.proofs.Tails.{tail-written}
 use Rattle.c_row.specs.declared.row.Row.{Row}
 use Rattle.c_row.specs.Rows.{hasOf, valueOf, rowOf}
-use Rattle.c_flat.specs.Flat.{rowBytes}
+use Rattle.c_row.specs.Flat.{rowBytes}
 
 -- ---- one record
 

@@ -16,8 +16,8 @@ use Rattle.layout.proofs.Lists.{rows-length, getD-rows}
 use Rattle.read_table.specs.declared.Reading.{Reading}
 use Rattle.read_table.specs.Reading.{toldOf, planned, ReadingPlanned}
 use Rattle.read_table.proofs.Plans.{told-answer}
-use Rattle.c_flat.specs.Flat.{lentRows, rowBytes, RowsRead}
-use Rattle.c_flat.proofs.Flats.{rows-lent}
+use Rattle.c_row.specs.Flat.{lentRows, rowBytes, RowsRead}
+use Rattle.c_row.proofs.Flats.{rows-lent}
 use Rattle.c_read.proofs.Laid.{rows-long, laid, laid-none, laid-length, laid-next}
 
 -- old after the first i records of n were laid at its start

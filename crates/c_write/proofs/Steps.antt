@@ -12,7 +12,7 @@ use Rattle.write_plan.specs.declared.Plan.{Plan}
 use Rattle.write_plan.specs.Checking.{planOf, measuredBy, startPlace, startBytes}
 use Rattle.write_plan.specs.Chunks.{chunksOf}
 use Rattle.write_chunks.proofs.Written.{PlanFits, plan-fits, plan-written}
-use Rattle.c_flat.specs.Flat.{lentRows, tableOf}
+use Rattle.c_row.specs.Flat.{lentRows, tableOf}
 use Rattle.c_write.proofs.Taking.{table-length}
 
 module _ (text flat out : List ℕ) (count : ℕ) (p : Plan) (e : p ≡ planOf text (tableOf flat) count (length out)) where

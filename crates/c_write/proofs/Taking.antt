@@ -17,7 +17,7 @@ use Rattle.write_plan.specs.Checking.{begun, looked, lookedAt, planned, planOf}
 use Rattle.write_plan.specs.Chunks.{chunkOf, chunksOf}
 use Rattle.write_plan.proofs.Length.{length-most, records-within}
 use Rattle.write_plan.proofs.Passes.{chunks-none, chunks-most, chunks-next}
-use Rattle.c_flat.specs.Flat.{lentRows, recordIn, flatRecord, tableOf}
+use Rattle.c_row.specs.Flat.{lentRows, recordIn, flatRecord, tableOf}
 
 pub table-length : (flat : List ℕ) → length (tableOf flat) ≡ lentRows (length flat)
 table-length flat = rows-length (flatRecord flat) 0 (lentRows (length flat))

@@ -1,2 +1,2 @@
 // A group's records, read into a lent table. The call promises `RecordsRead`.
-pub use read_filled::read_records;
+pub use read_table::filled::read_records;

@@ -6,7 +6,7 @@ use Rattle.casm.proofs.read.find_group.Met as find-group
 use Rattle.casm.proofs.read.find_part.Met as find-part
 use Rattle.casm.proofs.read.find_channel.Met as find-channel
 use Rattle.casm.proofs.read.group_text.Met as group-text
-use Rattle.read_filled.proofs.read_records.Met as read-records
+use Rattle.read_table.proofs.filled.read_records.Met as read-records
 use Rattle.casm.proofs.questions.who_plays.Met as who-plays
 use Rattle.casm.proofs.questions.find_voice.Met as find-voice
 use Rattle.casm.proofs.questions.voice_name.Met as voice-name

@@ -13,7 +13,7 @@ use Rattle.c_export.proofs.changing.casm_field.Met as casm-field
 use Rattle.c_export.proofs.tables.casm_write.Met as casm-write
 use Rattle.c_export.proofs.tables.casm_records.Met as casm-records
 use Rattle.c_row.specs.Rows.{recorded}
-use Rattle.c_flat.specs.Flat.{tableOf}
+use Rattle.c_row.specs.Flat.{tableOf}
 use Rattle.c_export.specs.Crossing.{answered, counted, measured, located, named, grouped, channelled, spanned, played, placed}
 use Rattle.law_refusals.proofs.Calls.{casm-given, body-given, group-given, part-given, channel-given, voice-given, players-given, note-given}
 use Rattle.law_refusals.proofs.Changes.{write-given, edit-given, salvage-given}

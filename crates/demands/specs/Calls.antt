@@ -7,7 +7,7 @@ use Rattle.casm.proofs.read.find_group.Statement as find-group
 use Rattle.casm.proofs.read.find_part.Statement as find-part
 use Rattle.casm.proofs.read.find_channel.Statement as find-channel
 use Rattle.casm.proofs.read.group_text.Statement as group-text
-use Rattle.read_filled.proofs.read_records.Statement as read-records
+use Rattle.read_table.proofs.filled.read_records.Statement as read-records
 use Rattle.casm.proofs.questions.who_plays.Statement as who-plays
 use Rattle.casm.proofs.questions.find_voice.Statement as find-voice
 use Rattle.casm.proofs.questions.voice_name.Statement as voice-name

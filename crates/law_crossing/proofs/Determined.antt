@@ -17,7 +17,7 @@ use Rattle.layout.specs.Screen.{fieldSet, changed}
 use Rattle.layout.specs.Promises.{CasmFound, BodyRead, GroupFound, PartFound, ChannelFound, VoiceFound, PlaysTold, NotePlaced, RecordsRead, GroupWritten, RecordEdited, FieldSet, Salvaged}
 use Rattle.c_row.specs.declared.row.Row.{Row}
 use Rattle.c_row.specs.Rows.{recorded}
-use Rattle.c_flat.specs.Flat.{tableOf, RowsRead}
+use Rattle.c_row.specs.Flat.{tableOf, RowsRead}
 use Rattle.c_export.specs.declared.answer.Answer.{Answer}
 use Rattle.c_export.specs.declared.answer.Count.{Count}
 use Rattle.c_export.specs.declared.answer.Length.{Length}

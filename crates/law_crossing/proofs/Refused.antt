@@ -13,7 +13,7 @@ use Rattle.layout.specs.Screen.{fieldSet, changed}
 use Rattle.layout.specs.Promises.{RecordsRead, PlaysTold}
 use Rattle.c_row.specs.declared.row.Row.{Row}
 use Rattle.c_row.specs.Rows.{recorded, rowOf}
-use Rattle.c_flat.specs.Flat.{lentRows, rowBytes, RowsRead}
+use Rattle.c_row.specs.Flat.{lentRows, rowBytes, RowsRead}
 use Rattle.c_export.specs.declared.answer.Players.{Players}
 use Rattle.c_export.specs.declared.answer.Edited.{Edited}
 use Rattle.c_export.specs.Crossing.{played, editOf}

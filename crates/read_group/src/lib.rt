@@ -1,14 +1,17 @@
 // One group in its parent (document 01, "The CASM body"): its Ctabs, its Cntts, its contents.
+pub mod cntts;
+pub mod ctabs;
+
 ghost use mathlib.Core.Path.{_≡_};
 ghost use Rattle.layout.specs.Group.{contents, groupAt};
+use crate::cntts::read_cntts;
+use crate::ctabs::read_ctabs;
 use layout::refusal::BAD_TAG;
 use layout::refusal::BAD_TEXT;
 use layout::tag::CSEG;
 use layout::tag::SDEC;
 use layout::turn::Judged;
 use layout::turn::Run;
-use read_cntts::read_cntts;
-use read_ctabs::read_ctabs;
 
 // The contents of a group: one Sdec, then Ctabs, then Cntts, with nothing between or after.
 pub fn judge_contents(c: &[u8]) -> Judged

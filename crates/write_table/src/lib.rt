@@ -1,4 +1,6 @@
 // A group written from a lent table (document 01, "Writing and editing": "writing puts one group at the start of a lent buffer").
+pub mod lent;
+
 ghost use Rattle.layout.specs.Promises.{GroupWritten};
 use layout::answer::Measured;
 use layout::record::Record;
@@ -8,10 +10,10 @@ use layout::record::Record;
 pub fn write_group(text: &[u8], table: &[Record], count: usize, out: &mut [u8]) -> Measured
     ensures { λ r. ⌜ GroupWritten (now (text .entry)) (now (table .entry)) count (now (out .entry)) r (now (out .exit)) ⌝ }
 {
-    let plan = write_lent::plan_group(text, table, count, out.len());
+    let plan = crate::lent::plan_group(text, table, count, out.len());
     let at = write_chunks::start::put_start(out, text, plan);
     let n = plan.records;
-    let behind = write_lent::put_chunks(table, n, out, at, false);
-    write_lent::put_chunks(table, n, out, behind, true);
+    let behind = crate::lent::put_chunks(table, n, out, at, false);
+    crate::lent::put_chunks(table, n, out, behind, true);
     write_plan::measured(plan)
 }

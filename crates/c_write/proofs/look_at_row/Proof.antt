@@ -2,7 +2,7 @@
 use mathlib.Core.Path.{ap, _∙_}
 use Rattle.layout.specs.declared.record.Record.{Record}
 use Rattle.write_plan.specs.Checking.{looked}
-use Rattle.c_flat.proofs.Parts.{row-record}
+use Rattle.c_row.proofs.Parts.{row-record}
 use borrow.Author.Needs.{needs}
 use Rattle.c_write.proofs.look_at_row.Statement.{statement}
 use Rattle.c_write.proofs.look_at_row.Tie as tie

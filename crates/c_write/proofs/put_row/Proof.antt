@@ -4,9 +4,9 @@ use native.Mathlib.Omega.{arith}
 use lib.ListN.{length, getD, replicate}
 use borrow.Author.Tests.{not-true, not-false}
 use Rattle.layout.proofs.Records.{bytes-length}
-use Rattle.c_flat.specs.Flat.{recordIn}
+use Rattle.c_row.specs.Flat.{recordIn}
 use Rattle.write_chunks.proofs.Stored.{ctab-fits, cntt-fits, ctab-replaced, cntt-replaced, none-replaced}
-use Rattle.c_flat.proofs.Parts.{row-taken, row-source, row-absent, row-value}
+use Rattle.c_row.proofs.Parts.{row-taken, row-source, row-absent, row-value}
 use borrow.Author.Needs.{needs}
 use Rattle.c_write.proofs.put_row.Statement.{statement}
 use Rattle.c_write.proofs.put_row.Tie as tie

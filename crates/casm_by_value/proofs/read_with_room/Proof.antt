@@ -55,10 +55,10 @@ use Rattle.layout.proofs.record.Record as T
 use Rattle.layout.proofs.record.Record.Laws as T′
 use Rattle.layout.proofs.answer.Counted as Q
 use Rattle.layout.proofs.answer.Counted.Laws as Q′
-use Rattle.read_filled.proofs.read_records as read
-use Rattle.read_filled.proofs.read_records.Symbol as read-def
-use Rattle.read_filled.proofs.read_records.Symbol.{name as #read-records}
-use Rattle.read_filled.proofs.read_records.Met as read-thm
+use Rattle.read_table.proofs.filled.read_records as read
+use Rattle.read_table.proofs.filled.read_records.Symbol as read-def
+use Rattle.read_table.proofs.filled.read_records.Symbol.{name as #read-records}
+use Rattle.read_table.proofs.filled.read_records.Met as read-thm
 use Rattle.casm_by_value.specs.declared.Filled.{Filled}
 use Rattle.casm_by_value.proofs.Filled as B
 use Rattle.casm_by_value.proofs.Filled.Laws as B′

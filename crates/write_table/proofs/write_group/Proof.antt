@@ -54,15 +54,15 @@ use Rattle.layout.proofs.answer.Measured.Laws as Q′
 use Rattle.layout.proofs.record.Record as T
 use Rattle.write_plan.proofs.Plan as P
 use Rattle.write_plan.proofs.Plan.Laws as P′
-use Rattle.write_lent.proofs.Again.{LentAgain, lends-again, comes-back}
-use Rattle.write_lent.proofs.plan_group as plan
-use Rattle.write_lent.proofs.plan_group.Symbol as plan-def
-use Rattle.write_lent.proofs.plan_group.Symbol.{name as #lent·plan-group}
-use Rattle.write_lent.proofs.plan_group.Met as plan-thm
-use Rattle.write_lent.proofs.put_chunks as put
-use Rattle.write_lent.proofs.put_chunks.Symbol as put-def
-use Rattle.write_lent.proofs.put_chunks.Symbol.{name as #lent·put-chunks}
-use Rattle.write_lent.proofs.put_chunks.Met as put-thm
+use Rattle.write_table.proofs.Again.{LentAgain, lends-again, comes-back}
+use Rattle.write_table.proofs.lent.plan_group as plan
+use Rattle.write_table.proofs.lent.plan_group.Symbol as plan-def
+use Rattle.write_table.proofs.lent.plan_group.Symbol.{name as #lent·plan-group}
+use Rattle.write_table.proofs.lent.plan_group.Met as plan-thm
+use Rattle.write_table.proofs.lent.put_chunks as put
+use Rattle.write_table.proofs.lent.put_chunks.Symbol as put-def
+use Rattle.write_table.proofs.lent.put_chunks.Symbol.{name as #lent·put-chunks}
+use Rattle.write_table.proofs.lent.put_chunks.Met as put-thm
 use Rattle.write_chunks.proofs.start.put_start as start
 use Rattle.write_chunks.proofs.start.put_start.Symbol as start-def
 use Rattle.write_chunks.proofs.start.put_start.Symbol.{name as #write·put-start}
@@ -418,7 +418,7 @@ write-group-spec 𝓤 H 𝓜 𝓖 𝓡 =
     entered 𝓤 H (tripleOf 𝓤 H (𝓖 .A) group.signature (group.spec 𝓤 H (𝓖 .A) (𝓜 .mem) (𝓡 .run)))
     (tables 𝓤 H 𝓜 𝓡 code.env .C) (tables 𝓤 H 𝓜 𝓡 code.env .Λ) #written·write-group code.function (code.unfolded 𝓤 H 𝓜 𝓡)
     (group-meets 𝓤 H (𝓖 .A) (givenOf 𝓤 H 𝓜 𝓖) (𝓜 .mem) (𝓡 .run) (tablesOf 𝓤 H 𝓜 (tables 𝓤 H 𝓜 𝓡 code.env))
-    (cited 𝓤 H (Planning 𝓤 H (𝓖 .A) (𝓜 .mem) (𝓡 .run)) 𝓜 𝓡 code.env #lent·plan-group plan-def.routine code.calls-write-lent·plan-group (plan-thm.met 𝓤 H 𝓜 𝓖 𝓡))
+    (cited 𝓤 H (Planning 𝓤 H (𝓖 .A) (𝓜 .mem) (𝓡 .run)) 𝓜 𝓡 code.env #lent·plan-group plan-def.routine code.calls-write-table·lent·plan-group (plan-thm.met 𝓤 H 𝓜 𝓖 𝓡))
     (cited 𝓤 H (Start 𝓤 H (𝓖 .A) (𝓜 .mem) (𝓡 .run)) 𝓜 𝓡 code.env #write·put-start start-def.routine code.calls-write-chunks·start·put-start (start-thm.met 𝓤 H 𝓜 𝓖 𝓡))
-    (cited 𝓤 H (Put 𝓤 H (𝓖 .A) (𝓜 .mem) (𝓡 .run)) 𝓜 𝓡 code.env #lent·put-chunks put-def.routine code.calls-write-lent·put-chunks (put-thm.met 𝓤 H 𝓜 𝓖 𝓡))
+    (cited 𝓤 H (Put 𝓤 H (𝓖 .A) (𝓜 .mem) (𝓡 .run)) 𝓜 𝓡 code.env #lent·put-chunks put-def.routine code.calls-write-table·lent·put-chunks (put-thm.met 𝓤 H 𝓜 𝓖 𝓡))
     (cited 𝓤 H (Measure 𝓤 H (𝓖 .A) (𝓜 .mem) (𝓡 .run)) 𝓜 𝓡 code.env #plan·measured measured-def.routine code.calls-write-plan·measured (measured-thm.met 𝓤 H 𝓜 𝓖 𝓡)))

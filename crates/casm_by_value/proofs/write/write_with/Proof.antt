@@ -57,7 +57,7 @@ use Rattle.write_table.proofs.write_group as write
 use Rattle.write_table.proofs.write_group.Symbol as write-def
 use Rattle.write_table.proofs.write_group.Symbol.{name as #written·write-group}
 use Rattle.write_table.proofs.write_group.Met as write-thm
-use Rattle.write_lent.proofs.Again.{LentAgain, lends-again, comes-back}
+use Rattle.write_table.proofs.Again.{LentAgain, lends-again, comes-back}
 use Rattle.casm_by_value.proofs.Lending.{lent-all}
 use Rattle.casm_by_value.proofs.Cells.{R, vals, AR, arrv, arrTy, typed, Part, Rest, to-parts, from-parts, Lent, said-lent, to-lent, goes-lent}
 use Rattle.casm_by_value.proofs.lent_of as few

@@ -1,2 +1,0 @@
-pub mod Flats
-pub mod Parts

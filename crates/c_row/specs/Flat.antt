@@ -1,0 +1,37 @@
+-- Channel records as a flat table: 28 bytes each, bytes 0-25, whether there is a Cntt (0 for none) and the Cntt's value.
+use Prim.Native.Nat.{ℕ, _*_, _/_}
+use mathlib.Core.Path.{_≡_}
+use mathlib.Core.List.{List, [], _∷_, _++_, flatMap}
+use lib.ListN.{length, getD, take, drop}
+use Rattle.layout.specs.Lists.{rows}
+use Rattle.layout.specs.Answers.{retold, lentAfter, countedAll}
+use Rattle.layout.specs.Asked.{recordsRead}
+use Rattle.layout.specs.Records.{bytesOf, recordOf}
+use Rattle.layout.specs.declared.record.Record.{Record}
+use Rattle.layout.specs.declared.answer.Counted.{Counted}
+use Rattle.c_row.specs.Rows.{secondOf, hasOf, valueOf}
+
+-- how many records a table of so many bytes lends: what is left over is no record
+abbrev pub lentRows : ℕ → ℕ
+lentRows size = size / 28
+
+-- the record that stands at the start
+unfoldable pub recordIn : List ℕ → Record
+recordIn p = recordOf p (secondOf (getD p 26 0) (getD p 27 0))
+
+-- record number i
+unfoldable pub flatRecord : List ℕ → ℕ → Record
+flatRecord flat i = recordIn (take 28 (drop (28 * i) flat))
+
+-- the records that are lent
+abbrev pub tableOf : List ℕ → List Record
+tableOf flat = rows (flatRecord flat) 0 (lentRows (length flat))
+
+-- a record as its 28 bytes
+unfoldable pub rowBytes : Record → List ℕ
+rowBytes r = bytesOf r ++ (hasOf (r .second) ∷ valueOf (r .second) ∷ [])
+
+-- a group's records in a lent flat table: filled up to the count, later bytes kept
+pub record RowsRead (body : List ℕ) (group : ℕ) (before : List ℕ) (r : Counted) (after : List ℕ) : Type 0 where
+  pub answer : r ≡ countedAll (recordsRead body group (lentRows (length before)))
+  pub table : after ≡ lentAfter (retold (flatMap rowBytes) (recordsRead body group (lentRows (length before)))) before

@@ -1,0 +1,25 @@
+-- The run of the groups, told as a count.
+use mathlib.Core.Path.{sym, _∙_}
+use Rattle.read_find.proofs.ReadLaws.{body-refused, body-counted}
+use borrow.Author.Needs.{needs}
+use Rattle.read_find.proofs.look.read_body.Statement.{statement}
+use Rattle.read_find.proofs.look.read_body.Tie as tie
+
+read-groups-requires : tie.Need-read-groups-requires
+read-groups-requires c κs = search needs
+
+enum-known-run : tie.Need-enum-known-run
+enum-known-run c = search needs
+
+enum-known-run-2 : tie.Need-enum-known-run-2
+enum-known-run-2 c = search needs
+
+returns : tie.Need-returns
+returns c = body-refused _ _ _ (sym (c .before .before .before .read-groups .ensures .run) ∙ c .before .run .given .1)
+
+returns-2 : tie.Need-returns-2
+returns-2 c = body-counted _ _ (sym (c .before .before .before .read-groups .ensures .run) ∙ c .before .run2 .given .1)
+
+pub read-body-spec : {M : Type 1} → statement M
+read-body-spec =
+    tie.close (tie.spec read-groups-requires enum-known-run enum-known-run-2 returns returns-2)

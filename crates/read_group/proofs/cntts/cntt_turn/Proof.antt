@@ -1,0 +1,161 @@
+-- One law for each way out; the tables of homes give the order's fault.
+use mathlib.Core.Path.{sym, _∙_}
+use native.Mathlib.Omega.{arith}
+use borrow.Author.Tests.{not-true, not-false}
+use Rattle.layout.specs.Group.{cnttTurn}
+use Rattle.layout.proofs.Heads.{head-within}
+use Rattle.layout.proofs.Cntts.{cntt-over, cntt-head, cntt-size, cntt-channel, cntt-value, cntt-order, cntt-last, channel-over, channel-in}
+use Rattle.read_group.proofs.OrderLaws.{order-at}
+use borrow.Author.Needs.{needs}
+use Rattle.read_group.proofs.cntts.cntt_turn.Statement.{statement}
+use Rattle.read_group.proofs.cntts.cntt_turn.Tie as tie
+
+mul-at : tie.Need-mul-at
+mul-at c = search needs
+
+add-at : tie.Need-add-at
+add-at c = search needs
+
+mul-at-2 : tie.Need-mul-at-2
+mul-at-2 c = search needs
+
+add-at-2 : tie.Need-add-at-2
+add-at-2 c = search needs
+
+returns : tie.Need-returns
+unfolding cnttTurn
+returns c = sym (cntt-over _ _ _ _ _ _ (c .if1 .taken))
+
+head-fault-requires : tie.Need-head-fault-requires
+head-fault-requires c κs = search needs
+
+returns-2 : tie.Need-returns-2
+unfolding cnttTurn
+returns-2 c = sym (cntt-head _ _ _ _ _ _ (c .before .before .if1 .left) _ (c .before .head-fault .ensures) (c .if2 .taken))
+
+add-word-at : tie.Need-add-word-at
+add-word-at c = search needs
+
+word-at-requires : tie.Need-word-at-requires
+word-at-requires c κs = omega (arith, head-within _ _ _ _ (c .before .head-fault .ensures) (c .if2 .left))
+
+returns-3 : tie.Need-returns-3
+unfolding cnttTurn
+returns-3 c =
+    let d = c .before .before in
+    sym (cntt-size _ _ _ _ _ _ (d .before .before .if1 .left) _ (d .before .head-fault .ensures) (d .if2 .left) (λ e. c .if3 .taken (c .before .word-at .ensures .0 ∙ e)))
+
+add-byte : tie.Need-add-byte
+add-byte c = search needs
+
+byte-requires : tie.Need-byte-requires
+byte-requires c κs =
+    let d = c .before .before in
+    omega (arith, head-within _ _ _ _ (d .before .head-fault .ensures) (d .if2 .left), sym (c .before .word-at .ensures .0) ∙ c .if3 .left)
+
+add-t16 : tie.Need-add-t16
+add-t16 c = search needs
+
+returns-4 : tie.Need-returns-4
+unfolding cnttTurn
+returns-4 c =
+    let e = c .before .before in
+    let d = e .before .before in
+    sym (cntt-channel _ _ _ _ _ _ (d .before .before .if1 .left) _ (d .before .head-fault .ensures) (d .if2 .left) (sym (e .before .word-at .ensures .0) ∙ e .if3 .left)
+    (channel-over _ (rw (c .before .byte .ensures .0) at (c .if4 .taken))))
+
+add-byte-2 : tie.Need-add-byte-2
+add-byte-2 c = search needs
+
+byte-requires-2 : tie.Need-byte-requires-2
+byte-requires-2 c κs =
+    let e = c .before .before in
+    let d = e .before .before in
+    omega (arith, head-within _ _ _ _ (d .before .head-fault .ensures) (d .if2 .left), sym (e .before .word-at .ensures .0) ∙ e .if3 .left)
+
+is-cntt-value-requires : tie.Need-is-cntt-value-requires
+is-cntt-value-requires c κs = search needs
+
+add-t18 : tie.Need-add-t18
+add-t18 c = search needs
+
+returns-5 : tie.Need-returns-5
+unfolding cnttTurn
+returns-5 c =
+    let g = c .before .before .before in
+    let e = g .before .before in
+    let d = e .before .before in
+    sym (cntt-value _ _ _ _ _ _ (d .before .before .if1 .left) _ (d .before .head-fault .ensures) (d .if2 .left) (sym (e .before .word-at .ensures .0) ∙ e .if3 .left)
+    (channel-in _ (rw (g .before .byte .ensures .0) at (g .if4 .left))) (rw (c .before .before .byte2 .ensures .0) at (sym (c .before .is-cntt-value .ensures) ∙ not-true _ (c .if5 .taken))))
+
+mul-order-fault : tie.Need-mul-order-fault
+mul-order-fault c = search needs
+
+element-copy-out-order-fault : tie.Need-element-copy-out-order-fault
+element-copy-out-order-fault c = search needs
+
+mul-order-fault-2 : tie.Need-mul-order-fault-2
+mul-order-fault-2 c = search needs
+
+element-copy-out-order-fault-2 : tie.Need-element-copy-out-order-fault-2
+element-copy-out-order-fault-2 c = search needs
+
+order-fault-requires : tie.Need-order-fault-requires
+order-fault-requires c κs = search needs
+
+returns-6 : tie.Need-returns-6
+unfolding cnttTurn
+returns-6 c =
+    let f = c .before .before .before .before in
+    let g = f .before .before .before in
+    let e = g .before .before in
+    let d = e .before .before in
+    let low = rw (g .before .byte .ensures .0) at (g .if4 .left) in
+    let pre = d .before .before .before .before .pre in
+    sym (cntt-order _ _ _ _ _ _ (d .before .before .if1 .left) _ (d .before .head-fault .ensures) (d .if2 .left) (sym (e .before .word-at .ensures .0) ∙ e .if3 .left)
+    (channel-in _ low) (rw (f .before .before .byte2 .ensures .0) at (sym (f .before .is-cntt-value .ensures) ∙ not-false _ (f .if5 .left))) _
+    (c .before .order-fault .ensures ∙ order-at _ _ _ _ _ _ _ (pre .1 .0 .each _ (omega arith)) (pre .1 .1 .0 .each _ (omega arith)) _ _ (pre .1 .1 .1) (g .before .byte .ensures .0)) (c .if6 .taken))
+
+returns-7 : tie.Need-returns-7
+unfolding cnttTurn
+returns-7 c =
+    let f = c .before .before .before .before in
+    let g = f .before .before .before in
+    let e = g .before .before in
+    let d = e .before .before in
+    let low = rw (g .before .byte .ensures .0) at (g .if4 .left) in
+    let pre = d .before .before .before .before .pre in
+    sym (cntt-last _ _ _ _ _ _ (d .before .before .if1 .left) _ (d .before .head-fault .ensures) (d .if2 .left) (sym (e .before .word-at .ensures .0) ∙ e .if3 .left)
+    (channel-in _ low) (rw (f .before .before .byte2 .ensures .0) at (sym (f .before .is-cntt-value .ensures) ∙ not-false _ (f .if5 .left))) _
+    (c .before .order-fault .ensures ∙ order-at _ _ _ _ _ _ _ (pre .1 .0 .each _ (omega arith)) (pre .1 .1 .0 .each _ (omega arith)) _ _ (pre .1 .1 .1) (g .before .byte .ensures .0)) (c .if6 .left))
+
+pub cntt-turn-spec : {M : Type 1} → statement M
+cntt-turn-spec =
+    tie.close
+    (tie.spec
+    mul-at
+    add-at
+    mul-at-2
+    add-at-2
+    returns
+    head-fault-requires
+    returns-2
+    add-word-at
+    word-at-requires
+    returns-3
+    add-byte
+    byte-requires
+    add-t16
+    returns-4
+    add-byte-2
+    byte-requires-2
+    is-cntt-value-requires
+    add-t18
+    returns-5
+    mul-order-fault
+    element-copy-out-order-fault
+    mul-order-fault-2
+    element-copy-out-order-fault-2
+    order-fault-requires
+    returns-6
+    returns-7)

@@ -1,0 +1,108 @@
+-- What is still to be read is the run from Ctab number n on; the table holds the homes of the channels so far. n goes up.
+use Prim.Native.Nat.{_+_, _*_, _-_, _≤_}
+use mathlib.Core.Path.{_≡_, refl, sym, _∙_}
+use native.Mathlib.Omega.{arith}
+use lib.ListN.{length}
+use Rattle.layout.specs.Scan.{run}
+use Rattle.layout.specs.Ranges.{firstEdition}
+use Rattle.layout.specs.Group.{ctabChannel, ctabTurn, ctabsOf}
+use Rattle.layout.proofs.Runs.{run-stop, run-done, run-more, not-ended}
+use Rattle.layout.proofs.Ctabs.{turn-more, ctab-fits, channel-small}
+use Rattle.read_group.specs.Homes.{Homes}
+use Rattle.read_group.proofs.HomeLaws.{homes-start}
+use Rattle.read_group.proofs.CtabHomes.{homes-more, ended-homes}
+use borrow.Author.Needs.{needs}
+use Rattle.read_group.proofs.ctabs.read_ctabs.Statement.{statement}
+use Rattle.read_group.proofs.ctabs.read_ctabs.Tie as tie
+
+abbrev Inv-loop : tie.InvT-loop
+Inv-loop c p homes₀ n₀ homes n =
+    (p + 35 * n ≤ length c) × (Homes (ctabChannel firstEdition c p) n homes × (ctabsOf c p ≡ run (ctabTurn firstEdition c p) n (length c + 1)))
+
+abbrev μ-loop : tie.MeasureT-loop
+μ-loop c p homes₀ n₀ homes n = length c + 1 - n
+
+loop-holds : tie.Need-loop-holds Inv-loop μ-loop
+unfolding ctabsOf
+loop-holds c = (omega arith, (homes-start _ _ refl, refl))
+
+ctab-turn-requires : tie.Need-ctab-turn-requires Inv-loop μ-loop
+ctab-turn-requires c κs = search needs
+
+enum-known-number : tie.Need-enum-known-number Inv-loop μ-loop
+enum-known-number c = search needs
+
+returns : tie.Need-returns Inv-loop μ-loop
+returns c =
+    let l = c .before .before .before .before .before .loop in
+    record { run = sym (l .inv .1 .1 ∙ run-stop _ _ _ _ _ (omega arith) (sym (c .before .before .before .ctab-turn .ensures) ∙ c .before .number .given .1)); homes = λ n e. not-ended _ _ n e }
+
+enum-told : tie.Need-enum-told Inv-loop μ-loop
+enum-told c = search needs
+
+returns-2 : tie.Need-returns-2 Inv-loop μ-loop
+returns-2 c =
+    let l = c .before .before .before .before .loop in
+    record { run = sym (l .inv .1 .1 ∙ run-done _ _ _ (omega arith) (sym (c .before .before .ctab-turn .ensures) ∙ c .enum-told .given .1)); homes = λ m e. ended-homes _ _ _ _ m (l .inv .0) (l .inv .1 .0) e }
+
+enum-told-2 : tie.Need-enum-told-2 Inv-loop μ-loop
+enum-told-2 c = search needs
+
+mul-byte : tie.Need-mul-byte Inv-loop μ-loop
+mul-byte c = search needs
+
+add-byte : tie.Need-add-byte Inv-loop μ-loop
+add-byte c = search needs
+
+add-byte-2 : tie.Need-add-byte-2 Inv-loop μ-loop
+add-byte-2 c = search needs
+
+byte-requires : tie.Need-byte-requires Inv-loop μ-loop
+byte-requires c κs = omega (arith, ctab-fits _ _ _ _ (turn-more _ _ _ (sym (c .before .before .ctab-turn .ensures) ∙ c .enum-told2 .given .1)))
+
+add-homes : tie.Need-add-homes Inv-loop μ-loop
+add-homes c = search needs
+
+mul-homes : tie.Need-mul-homes Inv-loop μ-loop
+mul-homes c = search needs
+
+array-write-homes : tie.Need-array-write-homes Inv-loop μ-loop
+array-write-homes c = rw (c .byte .ensures .0) (channel-small _ _ ((turn-more _ _ _ (sym (c .before .before .before .ctab-turn .ensures) ∙ c .before .enum-told2 .given .1)) .inside))
+
+add-n : tie.Need-add-n Inv-loop μ-loop
+add-n c = search needs
+
+loop-less : tie.Need-loop-less Inv-loop μ-loop
+loop-less c = search needs
+
+loop-again : tie.Need-loop-again Inv-loop μ-loop
+loop-again c =
+    let d = c .before in
+    let l = d .before .before .before .before .loop in
+    let told = sym (d .before .before .ctab-turn .ensures) ∙ d .enum-told2 .given .1 in
+    let more = turn-more _ _ _ told in
+    (omega (arith, ctab-fits _ _ _ _ more), (homes-more _ _ _ _ _ (l .inv .1 .0) more (c .byte .ensures .0), l .inv .1 .1 ∙ run-more _ _ _ (omega arith) told))
+
+pub read-ctabs-spec : {M : Type 1} → statement M
+read-ctabs-spec =
+    tie.close
+    (tie.spec
+    Inv-loop
+    μ-loop
+    loop-holds
+    ctab-turn-requires
+    enum-known-number
+    returns
+    enum-told
+    returns-2
+    enum-told-2
+    mul-byte
+    add-byte
+    add-byte-2
+    byte-requires
+    add-homes
+    mul-homes
+    array-write-homes
+    add-n
+    loop-less
+    loop-again)

@@ -1,0 +1,95 @@
+// The run of Cntts, after the Ctabs. The Ctab of a channel and an earlier Cntt of it are looked up in tables.
+ghost use mathlib.Core.Path.{_≡_};
+ghost use Prim.Native.Nat.{_+_, _*_, _≤_};
+ghost use lib.ListN.{length};
+ghost use Rattle.layout.specs.Ranges.{firstEdition};
+ghost use Rattle.layout.specs.Group.{ctabChannel, cnttChannel, cnttTurn, cnttsOf};
+ghost use Rattle.read_group.specs.Homes.{Homes};
+ghost use Rattle.read_group.specs.Order.{lastHome, orderFault};
+use layout::limit::CHANNELS;
+use layout::refusal::BAD_SIZE;
+use layout::refusal::CHANNEL_AGAIN;
+use layout::refusal::OUT_OF_RANGE;
+use layout::refusal::STRAY_CNTT;
+use layout::size::CNTT_BYTES;
+use layout::size::CNTT_STRIDE;
+use layout::size::CTAB_STRIDE;
+use layout::tag::CNTT;
+use layout::turn::Run;
+use layout::turn::Turn;
+
+// The refusal of a Cntt by the home of its channel among the Ctabs, its home among the Cntts before it,
+// and the number of the Ctab that the Cntt before it belongs to; 0 where there is none.
+fn order_fault(home: usize, again: usize, last: usize) -> u8
+    ensures { λ r. ⌜ r ≡ orderFault home again last ⌝ }
+{
+    if again != 0 {
+        return CHANNEL_AGAIN;
+    }
+    if home == 0 {
+        return STRAY_CNTT;
+    }
+    if home - 1 < last {
+        return STRAY_CNTT;
+    }
+    0
+}
+
+// Cntt number j, after n Ctabs from p on.
+fn cntt_turn(
+    c: &[u8],
+    p: usize,
+    n: usize,
+    j: usize,
+    homes: &[usize; CHANNELS],
+    seen: &[usize; CHANNELS],
+    last: usize,
+) -> Turn
+    requires { ⌜ (p + 35 * n + 10 * j ≤ length (now c)) × (Homes (ctabChannel firstEdition (now c) p) n (now homes) × (Homes (cnttChannel (now c) (p + 35 * n)) j (now seen) × (last ≡ lastHome (now c) p n j))) ⌝ }
+    ensures { λ r. ⌜ r ≡ cnttTurn (now (c .entry)) p n (p + 35 * n) j ⌝ }
+{
+    let at = p + CTAB_STRIDE * n + CNTT_STRIDE * j;
+    if at == c.len() {
+        return Turn::Done;
+    }
+    let h = read_bytes::head_fault(c, at, CNTT);
+    if h != 0 {
+        return Turn::Refused(h, at);
+    }
+    if read_bytes::word_at(c, at + 4) != CNTT_BYTES {
+        return Turn::Refused(BAD_SIZE, at);
+    }
+    let channel = read_bytes::byte(c, at + 8);
+    if 15 < channel {
+        return Turn::Refused(OUT_OF_RANGE, at + 8);
+    }
+    if !read_record::is_cntt_value(read_bytes::byte(c, at + 9)) {
+        return Turn::Refused(OUT_OF_RANGE, at + 9);
+    }
+    let fault = order_fault(homes[channel], seen[channel], last);
+    if fault != 0 {
+        return Turn::Refused(fault, at);
+    }
+    Turn::More
+}
+
+// The Cntts after n Ctabs from p on.
+pub fn read_cntts(c: &[u8], p: usize, n: usize, homes: &[usize; CHANNELS]) -> Run
+    requires { ⌜ (p + 35 * n ≤ length (now c)) × Homes (ctabChannel firstEdition (now c) p) n (now homes) ⌝ }
+    ensures { λ r. ⌜ r ≡ cnttsOf (now (c .entry)) p n ⌝ }
+{
+    let mut seen: [usize; CHANNELS] = [0; CHANNELS];
+    let mut last: usize = 0;
+    let mut j: usize = 0;
+    loop {
+        match cntt_turn(c, p, n, j, homes, &seen, last) {
+            Turn::Refused(number, place) => return Run::Stopped(number, place),
+            Turn::Done => return Run::Ended(j),
+            Turn::More => {}
+        }
+        let channel = read_bytes::byte(c, p + CTAB_STRIDE * n + CNTT_STRIDE * j + 8);
+        seen[channel] = j + 1;
+        last = homes[channel] - 1;
+        j += 1;
+    }
+}
