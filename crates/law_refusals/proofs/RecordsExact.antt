@@ -63,18 +63,18 @@ module _ (rs : List Record) where
     module _ (f : InRange (getD rs i blank)) where
       turn-again : (j : ℕ) → j < i → channelOf (getD rs j blank) ≡ channelOf (getD rs i blank) → recordTurn firstEdition rs i ≡ Refused 10 (27 * i)
       unfolding recordTurn
-      turn-again j l e = rw (bad-none (getD rs i blank) f, lt-ltb (recordOn firstEdition rs i (channelOf (getD rs i blank))) i (go (decLt _ i)))
+      turn-again j l e = rw (bad-none (getD rs i blank) f, lt-ltb (recordOn rs i (channelOf (getD rs i blank))) i (go (decLt _ i)))
         where
-          go : Dec (recordOn firstEdition rs i (channelOf (getD rs i blank)) < i) → recordOn firstEdition rs i (channelOf (getD rs i blank)) < i
+          go : Dec (recordOn rs i (channelOf (getD rs i blank)) < i) → recordOn rs i (channelOf (getD rs i blank)) < i
           go (yes a) = a
           go (no a) = absurd (record-unseen rs i (channelOf (getD rs i blank)) (omega arith) j l e)
 
       turn-more : ((j : ℕ) → j < i → channelOf (getD rs j blank) ≡ channelOf (getD rs i blank) → ⊥) → recordTurn firstEdition rs i ≡ More
       unfolding recordTurn
-      turn-more g = rw (bad-none (getD rs i blank) f, le-ltb (recordOn firstEdition rs i (channelOf (getD rs i blank))) i (go (decLt _ i)))
+      turn-more g = rw (bad-none (getD rs i blank) f, le-ltb (recordOn rs i (channelOf (getD rs i blank))) i (go (decLt _ i)))
         where
-          go : Dec (recordOn firstEdition rs i (channelOf (getD rs i blank)) < i) → i ≤ recordOn firstEdition rs i (channelOf (getD rs i blank))
-          go (yes a) = absurd (g (recordOn firstEdition rs i (channelOf (getD rs i blank))) a (record-seen rs i (channelOf (getD rs i blank)) a))
+          go : Dec (recordOn rs i (channelOf (getD rs i blank)) < i) → i ≤ recordOn rs i (channelOf (getD rs i blank))
+          go (yes a) = absurd (g (recordOn rs i (channelOf (getD rs i blank))) a (record-seen rs i (channelOf (getD rs i blank)) a))
           go (no a) = omega arith
 
   module _ (k : ℕ) (b : RecordsBefore rs k) where

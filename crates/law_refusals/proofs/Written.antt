@@ -27,11 +27,11 @@ use Rattle.law_refusals.proofs.Records.{bad-byte, in-range}
 
 module _ (rs : List Record) where
   -- the first of i records that has a source channel
-  pub record-seen : (i channel : ℕ) → recordOn firstEdition rs i channel < i → channelOf (getD rs (recordOn firstEdition rs i channel) blank) ≡ channel
+  pub record-seen : (i channel : ℕ) → recordOn rs i channel < i → channelOf (getD rs (recordOn rs i channel) blank) ≡ channel
   unfolding recordOn
   record-seen i channel h = eqb-true _ _ (first-stands (λ j. eqb (channelOf (getD rs j blank)) channel) i h)
 
-  pub record-unseen : (i channel : ℕ) → i ≤ recordOn firstEdition rs i channel → (j : ℕ) → j < i → channelOf (getD rs j blank) ≡ channel → ⊥
+  pub record-unseen : (i channel : ℕ) → i ≤ recordOn rs i channel → (j : ℕ) → j < i → channelOf (getD rs j blank) ≡ channel → ⊥
   unfolding recordOn
   record-unseen i channel h j l = eqb-false _ _ (first-passed (λ j. eqb (channelOf (getD rs j blank)) channel) i j (omega arith))
 
@@ -39,20 +39,20 @@ module _ (rs : List Record) where
   start = record { inside = λ i h. absurd (omega arith); apart = λ i j h k. absurd (omega arith) }
 
   turn-more : (i : ℕ) → recordTurn firstEdition rs i ≡ More
-      → (26 ≤ firstBad firstEdition (getD rs i blank)) × (i ≤ recordOn firstEdition rs i (channelOf (getD rs i blank)))
+      → (26 ≤ firstBad firstEdition (getD rs i blank)) × (i ≤ recordOn rs i (channelOf (getD rs i blank)))
   unfolding recordTurn
-  turn-more i m = go (ltb (firstBad firstEdition (getD rs i blank)) 26) (ltb (recordOn firstEdition rs i (channelOf (getD rs i blank))) i) refl refl m
+  turn-more i m = go (ltb (firstBad firstEdition (getD rs i blank)) 26) (ltb (recordOn rs i (channelOf (getD rs i blank))) i) refl refl m
     where
-      go : (a b : Bool) → ltb (firstBad firstEdition (getD rs i blank)) 26 ≡ a → ltb (recordOn firstEdition rs i (channelOf (getD rs i blank))) i ≡ b
+      go : (a b : Bool) → ltb (firstBad firstEdition (getD rs i blank)) 26 ≡ a → ltb (recordOn rs i (channelOf (getD rs i blank))) i ≡ b
           → cond a (Refused 9 (27 * i + firstBad firstEdition (getD rs i blank))) (cond b (Refused 10 (27 * i)) More) ≡ More
-          → (26 ≤ firstBad firstEdition (getD rs i blank)) × (i ≤ recordOn firstEdition rs i (channelOf (getD rs i blank)))
+          → (26 ≤ firstBad firstEdition (getD rs i blank)) × (i ≤ recordOn rs i (channelOf (getD rs i blank)))
       go true b e f q = absurd (let z : _≡_ {A = ℕ} 0 1 = cc in omega arith)
       go false true e f q = absurd (let z : _≡_ {A = ℕ} 0 1 = cc in omega arith)
       go false false e f q = (ltb-false _ _ e, ltb-false _ _ f)
 
   not-done : (i : ℕ) → recordTurn firstEdition rs i ≡ Done → ⊥
   unfolding recordTurn
-  not-done i m = go (ltb (firstBad firstEdition (getD rs i blank)) 26) (ltb (recordOn firstEdition rs i (channelOf (getD rs i blank))) i) m
+  not-done i m = go (ltb (firstBad firstEdition (getD rs i blank)) 26) (ltb (recordOn rs i (channelOf (getD rs i blank))) i) m
     where
       go : (a b : Bool) → cond a (Refused 9 (27 * i + firstBad firstEdition (getD rs i blank))) (cond b (Refused 10 (27 * i)) More) ≡ Done → ⊥
       go true b q = let z : _≡_ {A = ℕ} 0 1 = cc in omega arith
@@ -68,7 +68,7 @@ module _ (rs : List Record) where
       inside j (yes d) h l = held .inside j d
       inside j (no d) h l = let q : j ≡ i = omega arith in rw q (in-range (getD rs i blank) h)
 
-      apart : (a b : ℕ) → a < b → Dec (b < i) → i ≤ recordOn firstEdition rs i (channelOf (getD rs i blank)) → b < i + 1
+      apart : (a b : ℕ) → a < b → Dec (b < i) → i ≤ recordOn rs i (channelOf (getD rs i blank)) → b < i + 1
           → channelOf (getD rs a blank) ≡ channelOf (getD rs b blank) → ⊥
       apart a b h (yes d) f l = held .apart a b h d
       apart a b h (no d) f l = let q : b ≡ i = omega arith in rw q (record-unseen i (channelOf (getD rs i blank)) f a (omega arith))
@@ -101,7 +101,7 @@ module _ (text : List ℕ) (table : List Record) (count room : ℕ) (few : count
   turn-told i l held =
       let r : Record = getD rs i blank in
       let k : ℕ = firstBad firstEdition r in
-      let j : ℕ = recordOn firstEdition rs i (channelOf r) in
+      let j : ℕ = recordOn rs i (channelOf r) in
       let known = before i (omega arith) held in
       if-told (TurnTold (WriteRefused text table count room)) (ltb k 26) _ _
       (λ e. table-byte i k l few sound known (bad-there r (getD table i blank) k (same-record i l) (bad-byte r (ltb-true _ _ e)))) (λ e.

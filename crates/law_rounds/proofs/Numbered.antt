@@ -111,7 +111,7 @@ field-numbered r index value =
 
 record-numbered : (rs : List Record) (i k place : ℕ) → recordTurn firstEdition rs i ≡ Refused k place → 0 < k
 unfolding recordTurn
-record-numbered rs i k place e = go (ltb (firstBad firstEdition (getD rs i blank)) 26) (ltb (recordOn firstEdition rs i (channelOf (getD rs i blank))) i) e
+record-numbered rs i k place e = go (ltb (firstBad firstEdition (getD rs i blank)) 26) (ltb (recordOn rs i (channelOf (getD rs i blank))) i) e
   where
     go : (a b : Bool) → cond a (Refused 9 (27 * i + firstBad firstEdition (getD rs i blank))) (cond b (Refused 10 (27 * i)) More) ≡ Refused k place → 0 < k
     go true b q = let z : 9 ≡ k = cc in omega arith

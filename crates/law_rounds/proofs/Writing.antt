@@ -38,7 +38,7 @@ module _ (rs : List Record) (i : ℕ) where
 
   not-done : recordTurn firstEdition rs i ≡ Done → ⊥
   unfolding recordTurn
-  not-done e = go (ltb (firstBad firstEdition (getD rs i blank)) 26) (ltb (recordOn firstEdition rs i (channelOf (getD rs i blank))) i) e
+  not-done e = go (ltb (firstBad firstEdition (getD rs i blank)) 26) (ltb (recordOn rs i (channelOf (getD rs i blank))) i) e
     where
       go : (a b : Bool) → verdict a b ≡ Done → ⊥
       go true b q = let z : _≡_ {A = ℕ} 0 1 = cc in omega arith
@@ -51,7 +51,7 @@ module _ (rs : List Record) (i : ℕ) where
       let w : 26 ≤ first (badByte firstEdition (getD rs i blank)) 0 26 = ltb-false _ _ e in
       omega (arith, first-within (badByte firstEdition (getD rs i blank)) 26)
 
-  own-channel : ltb (recordOn firstEdition rs i (channelOf (getD rs i blank))) i ≡ false → (j : ℕ) → j < i → channelOf (getD rs j blank) ≡ channelOf (getD rs i blank) → ⊥
+  own-channel : ltb (recordOn rs i (channelOf (getD rs i blank))) i ≡ false → (j : ℕ) → j < i → channelOf (getD rs j blank) ≡ channelOf (getD rs i blank) → ⊥
   unfolding recordOn
   own-channel e j l =
       let w : i ≤ first (λ j. eqb (channelOf (getD rs j blank)) (channelOf (getD rs i blank))) 0 i = ltb-false _ _ e in
@@ -59,9 +59,9 @@ module _ (rs : List Record) (i : ℕ) where
 
   more-good : recordTurn firstEdition rs i ≡ More → Good
   unfolding recordTurn
-  more-good e = go (ltb (firstBad firstEdition (getD rs i blank)) 26) (ltb (recordOn firstEdition rs i (channelOf (getD rs i blank))) i) refl refl e
+  more-good e = go (ltb (firstBad firstEdition (getD rs i blank)) 26) (ltb (recordOn rs i (channelOf (getD rs i blank))) i) refl refl e
     where
-      go : (a b : Bool) → ltb (firstBad firstEdition (getD rs i blank)) 26 ≡ a → ltb (recordOn firstEdition rs i (channelOf (getD rs i blank))) i ≡ b → verdict a b ≡ More → Good
+      go : (a b : Bool) → ltb (firstBad firstEdition (getD rs i blank)) 26 ≡ a → ltb (recordOn rs i (channelOf (getD rs i blank))) i ≡ b → verdict a b ≡ More → Good
       go true b f g q = absurd (let z : _≡_ {A = ℕ} 0 1 = cc in omega arith)
       go false true f g q = absurd (let z : _≡_ {A = ℕ} 0 1 = cc in omega arith)
       go false false f g q = (in-range f, own-channel g)
