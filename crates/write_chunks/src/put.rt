@@ -4,9 +4,6 @@ ghost use mathlib.Core.List.{_∷_, _++_};
 ghost use Prim.Native.Nat.{_≤_};
 ghost use lib.ListN.{length, drop};
 ghost use Rattle.layout.specs.Bytes.{four};
-ghost use Rattle.layout.specs.Records.{fileBytes};
-use layout::record::Record;
-use read_record::held::bytes_of;
 
 // These bytes.
 pub fn put_bytes(out: &mut [u8], b: &[u8])
@@ -42,13 +39,4 @@ pub fn put_held(out: &mut [u8], b: &[u8])
 {
     put_bytes(out, b);
     out[26] = 0;
-}
-
-// The 27 bytes of a record.
-pub fn put_record(out: &mut [u8], r: Record)
-    requires { ⌜ 27 ≤ length (now out) ⌝ }
-    ensures { λ _. ⌜ now (out .exit) ≡ fileBytes r ++ drop 27 (now (out .entry)) ⌝ }
-{
-    let b = bytes_of(r);
-    put_held(out, &b);
 }

@@ -14,7 +14,7 @@ use read_find::row::Sought;
 use read_find::row::find_record;
 use read_record::first_out;
 use read_record::held::bytes_of;
-use write_chunks::put::put_record;
+use write_chunks::put::put_held;
 
 fn answer(number: u8, place: usize) -> Answered
     ensures { λ r. ⌜ r ≡ told number place ⌝ }
@@ -39,7 +39,7 @@ fn edit_at(s: &mut [u8], at: usize, channel: SourceChannel, new: Record) -> Answ
     if k < HELD {
         return answer(OUT_OF_RANGE, k);
     }
-    put_record(&mut s[at..], new);
+    put_held(&mut s[at..], &b);
     answer(0, 0)
 }
 

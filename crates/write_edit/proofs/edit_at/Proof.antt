@@ -1,6 +1,7 @@
 -- One law for each way out; what is lent to the record's writer is the body from its place on.
 use native.Mathlib.Omega.{arith}
 use Rattle.layout.specs.Records.{channelOf}
+use Rattle.write_chunks.proofs.Stored.{record-stored}
 use Rattle.write_edit.proofs.Editing.{at-other, at-out, at-put}
 use borrow.Author.Needs.{needs}
 use Rattle.write_edit.proofs.edit_at.Statement.{statement}
@@ -30,17 +31,20 @@ unfolding channelOf
 returns-2 c =
     at-out _ _ _ _ (c .before .before .before .before .before .if1 .left) _ (c .before .before .before .before .bytes-of .ensures) _ (c .before .before .first-out .ensures) _ (c .answer2 .ensures) (omega (arith, c .before .if2 .taken))
 
-sub-put-record : tie.Need-sub-put-record
-sub-put-record c = search needs
+sub-put-held : tie.Need-sub-put-held
+sub-put-held c = search needs
 
-part-put-record-start : tie.Need-part-put-record-start
-part-put-record-start c = search needs
+part-put-held-start : tie.Need-part-put-held-start
+part-put-held-start c = search needs
 
-part-put-record-end : tie.Need-part-put-record-end
-part-put-record-end c = search needs
+part-put-held-end : tie.Need-part-put-held-end
+part-put-held-end c = search needs
 
-put-record-requires : tie.Need-put-record-requires
-put-record-requires c κs = search needs
+slice-aggregate-put-held : tie.Need-slice-aggregate-put-held
+slice-aggregate-put-held c = search needs
+
+put-held-requires : tie.Need-put-held-requires
+put-held-requires c κs = search needs
 
 answer-requires-3 : tie.Need-answer-requires-3
 answer-requires-3 c κs = search needs
@@ -51,9 +55,9 @@ same-length c = search needs
 returns-3 : tie.Need-returns-3
 unfolding channelOf
 returns-3 c =
-    let e = c .before .before .before .before .before in
-    let start = c .before .before .before .before .before .before .before .before .before .before .before .before .before .before in
-    at-put _ _ _ _ (e .before .before .before .before .if1 .left) _ (e .before .before .before .bytes-of .ensures) _ (e .before .first-out .ensures) _ (c .before .before .before .put-record .last .0) (c .answer3 .ensures) (omega (arith, e .if2 .left)) (omega (arith, start .pre)) (c .before .before .before .put-record .ensures)
+    let e = c .before .before .before .before .before .before in
+    let start = c .before .before .before .before .before .before .before .before .before .before .before .before .before .before .before in
+    at-put _ _ _ _ (e .before .before .before .before .if1 .left) _ (e .before .before .before .bytes-of .ensures) _ (e .before .first-out .ensures) _ (c .before .before .before .put-held .last .0) (c .answer3 .ensures) (omega (arith, e .if2 .left)) (omega (arith, start .pre)) (record-stored _ _ _ _ (e .before .before .before .bytes-of .ensures) (c .before .before .before .put-held .ensures))
 
 pub edit-at-spec : {M : Type 1} → statement M
 edit-at-spec =
@@ -66,10 +70,11 @@ edit-at-spec =
     first-out-requires
     answer-requires-2
     returns-2
-    sub-put-record
-    part-put-record-start
-    part-put-record-end
-    put-record-requires
+    sub-put-held
+    part-put-held-start
+    part-put-held-end
+    slice-aggregate-put-held
+    put-held-requires
     answer-requires-3
     same-length
     returns-3)
