@@ -46,8 +46,8 @@ Looking x i = (i < recordsNever) × (x .length ≤ 271 + 45 * i)
 unfoldable pub looked : Checked → ℕ → Record → Checked
 looked x i r =
     cond (not (eqb (x .number) accepted)) x
-    (cond (ltb (firstBad firstEdition r) 26) (refusedAt outOfRange (27 * i + firstBad firstEdition r))
-    (cond (bit (x .seen) (channelOf r)) (refusedAt channelAgain (27 * i))
+    (cond (ltb (firstBad firstEdition r) (firstEdition .held)) (refusedAt outOfRange (firstEdition .size * i + firstBad firstEdition r))
+    (cond (bit (x .seen) (channelOf r)) (refusedAt channelAgain (firstEdition .size * i))
     (record { number = accepted; place = 0; records = x .records; length = x .length + chunksSize (r .second); seen = bitOr (x .seen) (2 ^ channelOf r) })))
 
 -- the first n records looked at
