@@ -318,6 +318,21 @@ static void test_limits(void) {
     test("limits: a group more", groups.number == CASM_TOO_MANY_GROUPS && groups.place == CASM_MAX_GROUPS * M_SIZE);
 }
 
+/* ---- numbers from 2^32 on, which a script cannot say: cut to 32 bits each would be 0, and be answered as 0 */
+
+static void test_large_numbers(void) {
+    const unsigned long large = 1UL << 32;
+    unsigned char changed[BODY_SIZE], out[BODY_SIZE];
+    memcpy(changed, body, BODY_SIZE);
+    test("large: a group's number", casm_group(body, BODY_SIZE, large).number == CASM_BAD_NUMBER);
+    test("large: a channel's group", casm_channel(body, BODY_SIZE, large, three[0].bytes[0]).number == CASM_BAD_NUMBER);
+    test("large: a voice's group", casm_voice(body, BODY_SIZE, large, three[0].bytes[0]).number == CASM_BAD_NUMBER);
+    test("large: an edit's group", casm_edit(changed, BODY_SIZE, large, three[0].bytes[0], three[0]).number == CASM_BAD_NUMBER);
+    test("large: the records' group", casm_records(body, BODY_SIZE, large, 0, 0).number == CASM_BAD_NUMBER);
+    test("large: a field's index", casm_field(three[0], large, 0).number == CASM_BAD_NUMBER);
+    test("large: a count", casm_write((const unsigned char *)"Main A", 6, 0, 0, large, out, sizeof out).number == CASM_BAD_NUMBER);
+}
+
 int main(void) {
     prepare();
     test_find();
@@ -336,6 +351,7 @@ int main(void) {
     test_records();
     test_rows();
     test_limits();
+    test_large_numbers();
     printf("%d tests of the header, %d failed\n", tests, failed);
     return failed != 0;
 }

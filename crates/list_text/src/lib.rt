@@ -4,6 +4,7 @@ ghost use mathlib.Core.Path.{_≡_};
 ghost use Prim.Native.Nat.{_+_, _*_, _≤_};
 ghost use lib.ListN.{length};
 ghost use Rattle.layout.specs.Answers.{granted};
+ghost use Rattle.layout.specs.Body.{bodyLimit};
 ghost use Rattle.layout.specs.Salvage.{salvage};
 ghost use Rattle.layout.specs.Listing.{entryLine, textListed, FileListed};
 ghost use Rattle.list_spell.specs.Puts.{Put};
@@ -38,7 +39,7 @@ fn put_entries(out: &mut [u8], at: usize, list: &[usize], n: usize) -> usize
 
 // The text of a body whose tag stands at `tag` of its file. The list has room for the entries of any body, so the call does not refuse.
 fn list_body(out: &mut [u8], tag: usize, body: &[u8]) -> usize
-    requires { ⌜ (length (now out) ≡ 131072) × (length (now body) ≤ 32768) ⌝ }
+    requires { ⌜ (length (now out) ≡ 131072) × (length (now body) ≤ bodyLimit) ⌝ }
     ensures { λ r. ⌜ Put (now (out .entry)) 0 (textListed (record { start = tag; size = length (now (body .entry)) }) (granted (salvage (now (body .entry))))) r (now (out .exit)) ⌝ }
 {
     let mut list = [0usize; LIST];
