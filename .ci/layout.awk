@@ -8,15 +8,22 @@ function spelled(text) {
     return text ~ /-/ ? text : text "-" text
 }
 
-FILENAME ~ /Ranges\.antt$/ && /^ranges =/ { inside = 1 }
-FILENAME ~ /Ranges\.antt$/ && inside {
+# The first edition's bytes: those that the editions share, its rule and table, what follows them in a set, and the rest of its own.
+FILENAME ~ /Ranges\.antt$/ && /^(commonRanges|setRanges .*|ranges First) =/ { list = $1 == "ranges" ? "first" : $1 }
+FILENAME ~ /Ranges\.antt$/ && list != "" {
     line = $0
     while (match(line, /0x[0-9A-F]+ to 0x[0-9A-F]+/)) {
         split(substr(line, RSTART, RLENGTH), bound, / to /)
-        range[bytes++] = substr(bound[1], 3) "-" substr(bound[2], 3)
+        bytes_of[list, many[list]++] = substr(bound[1], 3) "-" substr(bound[2], 3)
         line = substr(line, RSTART + RLENGTH)
     }
-    if (/∷ \[\]/) inside = 0
+    if (/∷ \[\]/) list = ""
+}
+FILENAME ~ /Ranges\.antt$/ && /^ranges Second =/ {
+    for (k = 0; k < many["commonRanges"]; k++) range[bytes++] = bytes_of["commonRanges", k]
+    for (k = 0; k < 2; k++) range[bytes++] = bytes_of["first", k]
+    for (k = 0; k < many["setRanges"]; k++) range[bytes++] = bytes_of["setRanges", k]
+    for (k = 2; k < many["first"]; k++) range[bytes++] = bytes_of["first", k]
 }
 
 FILENAME ~ /Plays\.antt$/ && /^chordTypes =/ { inside = 1 }

@@ -8,7 +8,6 @@ use lib.Dec.{ltb, leb, eqb}
 use lib.IntN.{pos, _+ℤ_}
 use Rattle.layout.specs.declared.record.Record.{Record}
 use Rattle.layout.specs.declared.answer.Placed.{Placed}
-use Rattle.layout.specs.Ranges.{firstEdition}
 use Rattle.layout.specs.Records.{firstBad}
 use Rattle.layout.specs.Answers.{Answer, refused, granted}
 use Rattle.layout.specs.Place.{bypass, shift, Heard, silence, note, heard, notePlaced, placed}
@@ -38,14 +37,14 @@ module _ (r : Record) (root n : ℕ) where
   pub granted-heard : (h : Heard) → notePlaced r root n ≡ granted h → heard (pos n +ℤ shift r root) (r .low) (r .high) ≡ h
   unfolding notePlaced
   granted-heard h e =
-      asked-granted (leb 12 root || leb 128 n) (ltb (firstBad firstEdition r) 26) (not (bypass r) && eqb (r .rule) 1) (firstBad firstEdition r)
+      asked-granted (leb 12 root || leb 128 n) (ltb (firstBad r) 26) (not (bypass r) && eqb (r .rule) 1) (firstBad r)
       (heard (pos n +ℤ shift r root) (r .low) (r .high)) h e
 
   -- no refusal has number 0
   never-refused-0 : (place : ℕ) → notePlaced r root n ≡ refused 0 place → ⊥
   unfolding notePlaced
   never-refused-0 place e =
-      asked-refused (leb 12 root || leb 128 n) (ltb (firstBad firstEdition r) 26) (not (bypass r) && eqb (r .rule) 1) (firstBad firstEdition r)
+      asked-refused (leb 12 root || leb 128 n) (ltb (firstBad r) 26) (not (bypass r) && eqb (r .rule) 1) (firstBad r)
       (heard (pos n +ℤ shift r root) (r .low) (r .high)) place e
 
   -- a note that is granted is the one that document 01 names for note plus shift

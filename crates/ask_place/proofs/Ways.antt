@@ -7,7 +7,6 @@ use borrow.Author.Tests.{lt-ltb, le-ltb, lt-leb, le-leb, ne-eqb}
 use lib.Dec.{eqb}
 use lib.IntN.{pos, _+ℤ_, _-ℤ_}
 use Rattle.layout.specs.declared.record.Record.{Record}
-use Rattle.layout.specs.Ranges.{firstEdition}
 use Rattle.layout.specs.Records.{firstBad}
 use Rattle.layout.specs.Answers.{Answer, refused, granted}
 use Rattle.layout.specs.Place.{effective, bypass, shift, Heard, heard, notePlaced, placed}
@@ -49,7 +48,7 @@ module _ (r : Record) (root n : ℕ) where
   unfolding notePlaced
   placed-note h l = rw (lt-leb 12 root h, le-leb 128 n l)
 
-  module _ (hr : root < 12) (hn : n < 128) (k : ℕ) (e : k ≡ firstBad firstEdition r) where
+  module _ (hr : root < 12) (hn : n < 128) (k : ℕ) (e : k ≡ firstBad r) where
     pub placed-bad : k < 26 → notePlaced r root n ≡ refused 9 k
     unfolding notePlaced
     placed-bad h = rw (lt-leb 12 root hr, lt-leb 128 n hn, ← e, lt-ltb k 26 h)

@@ -1,5 +1,5 @@
 -- The sixteen places as the loop fills them.
-use Prim.Native.Nat.{ℕ, zero, suc, _+_, _*_, _-_, _≤_, _<_}
+use Prim.Native.Nat.{ℕ, zero, suc, _+_, _-_, _≤_, _<_}
 use native.Mathlib.Omega.{arith}
 use native.Mathlib.Numerals.{add-one}
 use mathlib.Core.Path.{_≡_, refl, sym, ap, _∙_}
@@ -8,7 +8,9 @@ use mathlib.Core.List.{List, [], _∷_, _++_, append-nil}
 use lib.ListN.{length, set, replicate, length-append}
 use lib.Seq.{set-append-seam, append-snoc}
 use Rattle.layout.specs.Bytes.{number}
+use Rattle.layout.specs.declared.edition.Edition.{Edition}
 use Rattle.layout.specs.declared.record.SourceChannel.{SourceChannel}
+use Rattle.layout.specs.Group.{ctabPlace}
 use Rattle.layout.specs.Answers.{granted, numberOf, placeOf, valueOr}
 use Rattle.layout.specs.Plays.{noChannel, inSixteen, played}
 use Rattle.read_find.proofs.Search as searched
@@ -17,7 +19,7 @@ use Rattle.ask_plays.specs.PlaysAt.{playsAt, sourceAt, playerAt, players
 
 -- ---- the sixteen places
 
-module _ (s : List ℕ) (p root type : ℕ) where
+module _ (ed : Edition) (s : List ℕ) (p root type : ℕ) where
   alone-few : (at : ℕ) → length (playerAt s at root type) ≤ 1
   unfolding playerAt
   alone-few at = go (playsAt s at root type)
@@ -27,16 +29,16 @@ module _ (s : List ℕ) (p root type : ℕ) where
       go false = omega arith
 
   -- no more play than are asked
-  pub players-few : (n : ℕ) → length (playersAt s p root type n) ≤ n
+  pub players-few : (n : ℕ) → length (playersAt ed s p root type n) ≤ n
   unfolding playersAt
   players-few zero = omega arith
   players-few (suc n) =
-      omega (arith, players-few n, alone-few (p + 35 * n + 8), length-append (playersAt s p root type n) (playerAt s (p + 35 * n + 8) root type))
+      omega (arith, players-few n, alone-few (ctabPlace ed p n + 8), length-append (playersAt ed s p root type n) (playerAt s (ctabPlace ed p n + 8) root type))
 
   -- the places hold those of the first i Ctabs that play, and the count is how many
   pub record Filled (i count : ℕ) (channels : List SourceChannel) : Type 0 where
-    pub counts : count ≡ length (playersAt s p root type i)
-    pub places : channels ≡ inSixteen (playersAt s p root type i)
+    pub counts : count ≡ length (playersAt ed s p root type i)
+    pub places : channels ≡ inSixteen (playersAt ed s p root type i)
 
   pub filled-start : Filled 0 0 (replicate 16 noChannel)
   unfolding playersAt inSixteen
@@ -46,24 +48,24 @@ module _ (s : List ℕ) (p root type : ℕ) where
     pub filled-room : i < 16 → count < 16
     filled-room h = omega (arith, filled .counts, players-few i)
 
-    next : playersAt s p root type (i + 1) ≡ playersAt s p root type i ++ playerAt s (p + 35 * i + 8) root type
+    next : playersAt ed s p root type (i + 1) ≡ playersAt ed s p root type i ++ playerAt s (ctabPlace ed p i + 8) root type
     unfolding playersAt
     next = rw add-one refl
 
     -- a record that does not play
-    pub filled-passed : playsAt s (p + 35 * i + 8) root type ≡ false → Filled (i + 1) count channels
+    pub filled-passed : playsAt s (ctabPlace ed p i + 8) root type ≡ false → Filled (i + 1) count channels
     unfolding playerAt
     filled-passed h =
-        let e : playersAt s p root type (i + 1) ≡ playersAt s p root type i = next ∙ rw (h, append-nil) in
+        let e : playersAt ed s p root type (i + 1) ≡ playersAt ed s p root type i = next ∙ rw (h, append-nil) in
         record { counts = rw e (filled .counts); places = rw e (filled .places) }
 
     -- a record that plays
-    pub filled-more : i < 16 → playsAt s (p + 35 * i + 8) root type ≡ true → Filled (i + 1) (count + 1) (set channels count (sourceAt s (p + 35 * i + 8)))
+    pub filled-more : i < 16 → playsAt s (ctabPlace ed p i + 8) root type ≡ true → Filled (i + 1) (count + 1) (set channels count (sourceAt s (ctabPlace ed p i + 8)))
     unfolding playerAt inSixteen
     filled-more l h =
-        let xs : List SourceChannel = playersAt s p root type i in
-        let a : SourceChannel = sourceAt s (p + 35 * i + 8) in
-        let e : playersAt s p root type (i + 1) ≡ xs ++ (a ∷ []) = next ∙ rw h in
+        let xs : List SourceChannel = playersAt ed s p root type i in
+        let a : SourceChannel = sourceAt s (ctabPlace ed p i + 8) in
+        let e : playersAt ed s p root type (i + 1) ≡ xs ++ (a ∷ []) = next ∙ rw h in
         let long : length (xs ++ (a ∷ [])) ≡ length xs + 1 = length-append xs (a ∷ []) in
         let z : 16 - length xs ≡ suc (16 - length (xs ++ (a ∷ []))) = omega (arith, players-few i) in
         record {
@@ -73,7 +75,7 @@ module _ (s : List ℕ) (p root type : ℕ) where
         }
 
 -- after the last Ctab
-pub filled-end : (s : List ℕ) (p root type n i count : ℕ) (channels : List SourceChannel) → Filled s p root type i count channels → i ≡ n
-    → record { number = 0; place = 0; count = count; channels = channels } ≡ played (granted (playersAt s p root type n))
+pub filled-end : (ed : Edition) (s : List ℕ) (p root type n i count : ℕ) (channels : List SourceChannel) → Filled ed s p root type i count channels → i ≡ n
+    → record { number = 0; place = 0; count = count; channels = channels } ≡ played (granted (playersAt ed s p root type n))
 unfolding played numberOf placeOf valueOr
-filled-end s p root type n i count channels filled e = rw (← e, filled .counts, filled .places)
+filled-end ed s p root type n i count channels filled e = rw (← e, filled .counts, filled .places)

@@ -67,7 +67,7 @@ module _ (s name : List ℕ) (root type : ℕ) where
       asked (e .0) (e .1 .0) r k ∙ part-missed s name (λ g. granted (playing (groupNo s g) root type)) (e .0) (e .1 .1)
 
   pub part-plays : (k : ℕ) (x : Standing) → partLocated s name ≡ Found k x → root < 12 → type < 34
-      → played (granted (playersAt s (x .ctabs) root type (x .records))) ≡ played (whoPlays s name root type)
+      → played (granted (playersAt (x .edition) s (x .ctabs) root type (x .records))) ≡ played (whoPlays s name root type)
   part-plays k x h r t =
       let p = part-there-is s name k x h in
       let e : whoPlays s name root type ≡ granted (playing (groupNo s k) root type) =

@@ -9,12 +9,12 @@ use mathlib.Core.List.{List}
 use lib.ListN.{length, getD, drop, replicate, length-append, length-replicate, getD-replicate, List·getD-eq-default, List·getD-append}
 use lib.Seq.{getD-append-add}
 use Rattle.layout.specs.Lists.{rows}
-use Rattle.layout.specs.Ranges.{firstEdition}
+use Rattle.layout.specs.declared.edition.Edition.{Edition}
 use Rattle.layout.specs.declared.record.SourceChannel.{SourceChannel}
 use Rattle.layout.specs.declared.record.Record.{Record}
 use Rattle.layout.specs.declared.turn.Run.the-variants.{Ended}
 use Rattle.layout.specs.Records.{blank, channelOf}
-use Rattle.layout.specs.Group.{payload, Group, ctabChannel, recordAt, groupOf}
+use Rattle.layout.specs.Group.{payload, Group, ctabPlace, ctabChannel, recordAt, groupOf}
 use Rattle.layout.specs.Body.{groupPlace, bodyRun, groupValue, groupNo}
 use Rattle.layout.specs.Plays.{bit, rootMask, chordMask, playsUnder, playing, noChannel, inSixteen}
 use Rattle.layout.proofs.Lists.{rows-length, getD-rows}
@@ -92,12 +92,12 @@ module _ (g : Group) (root type : ℕ) where
 
 -- ---- the source channels of a group of an accepted body are apart
 
-records-apart : (c : List ℕ) (t n m : ℕ) → Channels (ctabChannel firstEdition c (8 + t)) n → Channels (channelIn (groupOf c t n m .records)) (length (groupOf c t n m .records))
+records-apart : (c : List ℕ) (ed : Edition) (t n m : ℕ) → Channels (ctabChannel ed c (8 + t)) n → Channels (channelIn (groupOf ed c t n m .records)) (length (groupOf ed c t n m .records))
 unfolding groupOf channelOf
-records-apart c t n m a =
-    let row : ℕ → Record = recordAt c (8 + t) (8 + t + 35 * n) m in
+records-apart c ed t n m a =
+    let row : ℕ → Record = recordAt ed c (8 + t) (ctabPlace ed (8 + t) n) m in
     let long : length (rows row 0 n) ≡ n = rows-length row 0 n in
-    let at : (i : ℕ) → i < n → channelIn (rows row 0 n) i ≡ ctabChannel firstEdition c (8 + t) i = λ i l. ap channelOf (getD-rows row blank n i l) ∙ record-channel c (8 + t) (8 + t + 35 * n) m i in
+    let at : (i : ℕ) → i < n → channelIn (rows row 0 n) i ≡ ctabChannel ed c (8 + t) i = λ i l. ap channelOf (getD-rows row blank n i l) ∙ record-channel ed c (8 + t) (ctabPlace ed (8 + t) n) m i in
     record {
       low = λ i l. rw (at i (omega arith)) (a .low i (omega arith));
       apart = λ i j h l e. a .apart i j h (omega arith) (sym (at i (omega arith)) ∙ (e ∙ at j (omega arith)));
@@ -108,5 +108,5 @@ unfolding groupNo groupValue
 group-channels-apart s n g run l =
     let more = body-accepted s n run .each g l in
     rw (more .sound, groupValue)
-    (records-apart (payload (drop (groupPlace s g) s)) (more .text) (more .ctabs) (more .cntts)
-    (group-apart (drop (groupPlace s g) s) (more .text) (more .ctabs) (more .cntts) (more .sound)))
+    (records-apart (payload (drop (groupPlace s g) s)) (more .edition) (more .text) (more .ctabs) (more .cntts)
+    (group-apart (drop (groupPlace s g) s) (more .edition) (more .text) (more .ctabs) (more .cntts) (more .sound)))

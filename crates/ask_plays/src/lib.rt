@@ -1,20 +1,22 @@
 // Who plays under a chord (document 01, "Who plays"): asked of the group where it stands, the body read once.
 ghost use mathlib.Core.Path.{_≡_};
-ghost use Prim.Native.Nat.{_+_, _*_, _≤_, _<_};
+ghost use Prim.Native.Nat.{_+_, _≤_, _<_};
 ghost use lib.ListN.{length};
 ghost use Rattle.layout.specs.Answers.{refused, granted};
+ghost use Rattle.layout.specs.Group.{ctabPlace};
 ghost use Rattle.layout.specs.Plays.{played};
 ghost use Rattle.layout.specs.Promises.{PlaysTold};
 ghost use Rattle.ask_plays.specs.PlaysAt.{playsAt, playersAt};
 use layout::answer::Played;
+use layout::edition::Edition;
 use layout::limit::CHANNELS;
 use layout::limit::KIND;
 use layout::limit::ROOT;
 use layout::record::SourceChannel;
 use layout::refusal::BAD_NUMBER;
 use layout::refusal::NOT_THERE;
-use layout::size::CTAB_STRIDE;
 use read_find::Search;
+use read_record::edition::ctab_place;
 
 // Whether the record whose byte 0 stands at `at` plays: both masks have their bit set.
 fn is_playing(s: &[u8], at: usize, root: u8, kind: u8) -> bool
@@ -29,16 +31,16 @@ fn is_playing(s: &[u8], at: usize, root: u8, kind: u8) -> bool
     (chords >> kind) % 2 == 1
 }
 
-// The source channels of the n Ctabs from p on that play.
-fn players(s: &[u8], p: usize, n: usize, root: u8, kind: u8) -> Played
-    requires { ⌜ (p + 35 * n ≤ length (now s)) × ((n ≤ 16) × ((root < 12) × (kind < 34))) ⌝ }
-    ensures { λ r. ⌜ r ≡ played (granted (playersAt (now (s .entry)) p root kind n)) ⌝ }
+// The source channels of the n Ctabs of an edition from p on that play.
+fn players(edition: Edition, s: &[u8], p: usize, n: usize, root: u8, kind: u8) -> Played
+    requires { ⌜ (ctabPlace edition p n ≤ length (now s)) × ((n ≤ 16) × ((root < 12) × (kind < 34))) ⌝ }
+    ensures { λ r. ⌜ r ≡ played (granted (playersAt edition (now (s .entry)) p root kind n)) ⌝ }
 {
     let mut channels: [SourceChannel; CHANNELS] = [SourceChannel(0); CHANNELS];
     let mut count: usize = 0;
     let mut i: usize = 0;
     while i < n {
-        let at = p + CTAB_STRIDE * i + 8;
+        let at = ctab_place(edition, s, p, i) + 8;
         i += 1;
         if !is_playing(s, at, root, kind) {
             continue;
@@ -83,5 +85,6 @@ pub fn who_plays(s: &[u8], name: &[u8], root: u8, kind: u8) -> Played
     let Search::Found(_, x) = search else {
         return nobody(NOT_THERE, 0);
     };
-    players(s, x.ctabs, x.records, root, kind)
+    let edition = x.edition;
+    players(edition, s, x.ctabs, x.records, root, kind)
 }

@@ -6,6 +6,7 @@ use Rattle.layout.specs.declared.answer.Counted.{Counted}
 use Rattle.layout.specs.declared.answer.Measured.{Measured}
 use Rattle.layout.specs.declared.answer.Located.{Located}
 use Rattle.layout.specs.declared.answer.Named.{Named}
+use Rattle.layout.specs.declared.edition.Edition.the-variants.{First}
 use Rattle.layout.specs.declared.answer.Standing.{Standing}
 use Rattle.layout.specs.declared.answer.Grouped.{Grouped}
 use Rattle.layout.specs.declared.answer.Channelled.{Channelled}
@@ -45,10 +46,11 @@ located r = record { number = r .number; place = r .place; tag = r .tag; length 
 abbrev pub named : Holder → Named
 named r = record { number = r .number; place = r .place; group = r .group }
 
--- where a group and its parts stand
+-- where a group and its parts stand; every group that is read is of the first edition
 abbrev pub standing : Bounds → Standing
 standing r =
     record {
+      edition = First;
       at = r .at;
       size = r .size;
       text = r .«text_at»;

@@ -5,7 +5,7 @@ use Rattle.layout.specs.Lists.{same, has, distinct, every, any}
 use Rattle.layout.specs.Scan.{firstOf, first, runOf, run}
 use Rattle.layout.specs.Bytes.{number, word, four, tagAt, tagged, chunk}
 use Rattle.layout.specs.Answers.{numberOf, placeOf, valueOr, afterRun, partOf, counted}
-use Rattle.layout.specs.Ranges.{inside, ranges, outOf, firstOut}
+use Rattle.layout.specs.Ranges.{inside, commonRanges, setRanges, ranges, soundTable, outOf, ruleAt, outAt, firstOut}
 use Rattle.layout.specs.Records.{bytesOf, badSecond, badByte, firstBad}
 use Rattle.layout.specs.Sdec.{firstName, laterNames, names, soundText, shares}
 use Rattle.layout.specs.Group.{headFault, ctabsOver, ctabAt, ctabTurn, cnttAt, cnttTurn, cnttsOf, ctabsOf, afterCntts, afterCtabs, contents, payload, groupSize, behindHeader, groupAt}
@@ -19,9 +19,9 @@ use Rattle.layout.specs.Place.{becomes, effective, bypass, shift, octaves, fold
 use Rattle.demands.specs.Examples.{Hold, examples, listExample}
 
 pub marked : Hold examples
-unfolding same has distinct every any firstOf first runOf run number word four tagAt tagged numberOf placeOf valueOr afterRun partOf counted inside ranges outOf firstOut bytesOf badSecond badByte firstBad firstName laterNames names soundText shares headFault ctabsOver ctabAt ctabTurn cnttAt cnttTurn cnttsOf ctabsOf afterCntts afterCtabs contents payload groupSize behindHeader groupAt groupPlace textAt sharing afterContents groupTurnAt groupTurn bodyRun bodyRead ofGroup textOf cseg front pieces rest listed judged parts entriesFrom salvage bit rootMask chordMask playsUnder becomes effective bypass shift octaves folded heard notePlaced placed flatMap
+unfolding same has distinct every any firstOf first runOf run number word four tagAt tagged numberOf placeOf valueOr afterRun partOf counted inside commonRanges setRanges ranges soundTable outOf ruleAt outAt firstOut bytesOf badSecond badByte firstBad firstName laterNames names soundText shares headFault ctabsOver ctabAt ctabTurn cnttAt cnttTurn cnttsOf ctabsOf afterCntts afterCtabs contents payload groupSize behindHeader groupAt groupPlace textAt sharing afterContents groupTurnAt groupTurn bodyRun bodyRead ofGroup textOf cseg front pieces rest listed judged parts entriesFrom salvage bit rootMask chordMask playsUnder becomes effective bypass shift octaves folded heard notePlaced placed flatMap
 marked = (refl, (refl, (refl, (refl, (refl, (refl, (refl, (refl, (refl, (refl, (refl, (refl, (refl, (refl, (refl, (refl, (refl, (refl, (refl, (refl, (refl, (refl, (refl, (refl, (refl, (refl, (refl, (refl, (refl, (refl, (refl, (refl, (refl, tt)))))))))))))))))))))))))))))))))
 
 pub listed-file : Hold listExample
-unfolding same has distinct every any firstOf first runOf run number word four tagAt tagged valueOr afterRun inside ranges outOf firstOut firstName laterNames names soundText headFault ctabsOver ctabAt ctabTurn cnttAt cnttTurn cnttsOf ctabsOf afterCntts afterCtabs contents payload groupSize behindHeader groupAt cseg front pieces rest listed judged parts entriesFrom salvage entryNumbers listNumbers salvaged flatMap chunk noStyle sectionPlace sectionTagged sectionTurnAt sectionTurn sectionsRun casmAmong casmFound numeral places decimal spaced refusedLine casmLine entryLine endLine textListed bodyIn textFound listText
+unfolding same has distinct every any firstOf first runOf run number word four tagAt tagged valueOr afterRun inside commonRanges setRanges ranges soundTable outOf ruleAt outAt firstOut firstName laterNames names soundText headFault ctabsOver ctabAt ctabTurn cnttAt cnttTurn cnttsOf ctabsOf afterCntts afterCtabs contents payload groupSize behindHeader groupAt cseg front pieces rest listed judged parts entriesFrom salvage entryNumbers listNumbers salvaged flatMap chunk noStyle sectionPlace sectionTagged sectionTurnAt sectionTurn sectionsRun casmAmong casmFound numeral places decimal spaced refusedLine casmLine entryLine endLine textListed bodyIn textFound listText
 listed-file = (refl, tt)

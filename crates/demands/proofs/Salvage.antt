@@ -2,6 +2,7 @@
 use mathlib.Core.Path.{refl}
 use mathlib.Core.List.{[], _∷_, flatMap, flatten}
 use lib.ListN.{drop, set}
+use Rattle.layout.specs.declared.edition.Edition.the-variants.{First}
 use Rattle.layout.specs.Lists.{same, has, distinct, every}
 use Rattle.layout.specs.Scan.{firstOf, first, runOf, run}
 use Rattle.layout.specs.Bytes.{number, word, tagAt, tagged}
@@ -45,8 +46,8 @@ calls-list = accepted-lists
 lone : Lone M × Lone N
 unfolding same has distinct every firstOf first runOf run number word tagAt tagged inside firstName laterNames names soundText headFault ctabsOver ctabAt ctabTurn cnttAt cnttTurn cnttsOf ctabsOf afterCntts afterCtabs contents payload groupSize behindHeader groupAt cseg free
 lone = (
-  record { group = record { text = 6; ctabs = 0; cntts = 0; sound = refl; whole = refl }; only = free-by (drop 1 M) refl },
-  record { group = record { text = 6; ctabs = 0; cntts = 0; sound = refl; whole = refl }; only = free-by (drop 1 N) refl },
+  record { group = record { edition = First; text = 6; ctabs = 0; cntts = 0; sound = refl; whole = refl }; only = free-by (drop 1 M) refl },
+  record { group = record { edition = First; text = 6; ctabs = 0; cntts = 0; sound = refl; whole = refl }; only = free-by (drop 1 N) refl },
 )
 
 groups : GroupsBody (M ∷ M ∷ N ∷ [])

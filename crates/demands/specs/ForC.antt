@@ -5,6 +5,7 @@ use mathlib.Core.Path.{_≡_}
 use mathlib.Core.Bool.{false}
 use mathlib.Core.List.{List}
 use lib.ListN.{length, replicate}
+use Rattle.layout.specs.declared.edition.Edition.the-variants.{First}
 use Rattle.layout.specs.Screen.{fieldSet, changed}
 use Rattle.layout.specs.Promises.{CasmFound, BodyRead, GroupFound, PartFound, ChannelFound, VoiceFound, PlaysTold, NotePlaced, GroupWritten, RecordEdited, Salvaged}
 use Rattle.c_row.specs.declared.row.Row.{Row}
@@ -78,7 +79,7 @@ PartRefuses = (body part : List ℕ) (r : Holder) → PartFound body part (named
 abbrev pub GroupRefuses : Type 0
 GroupRefuses =
     (body : List ℕ) (group : ℕ) (r : Bounds) → GroupFound body group (grouped r)
-    → Refusing (GroupAsked body group) (r .number) (r .place) (standing r ≡ record { at = 0; size = 0; text = 0; length = 0; ctabs = 0; records = 0; cntts = 0; seconds = 0 })
+    → Refusing (GroupAsked body group) (r .number) (r .place) (standing r ≡ record { edition = First; at = 0; size = 0; text = 0; length = 0; ctabs = 0; records = 0; cntts = 0; seconds = 0 })
 
 -- casm_channel
 abbrev pub ChannelRefuses : Type 0

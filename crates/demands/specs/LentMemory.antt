@@ -4,6 +4,7 @@ use mathlib.Core.Path.{_≡_}
 use mathlib.Core.Bool.{false}
 use mathlib.Core.List.{List, []}
 use lib.ListN.{length, replicate}
+use Rattle.layout.specs.declared.edition.Edition.the-variants.{First}
 use Rattle.layout.specs.declared.record.Record.{Record}
 use Rattle.layout.specs.declared.answer.Answered.{Answered}
 use Rattle.layout.specs.declared.answer.Counted.{Counted}
@@ -59,11 +60,11 @@ NoCasmTold = (file : List ℕ) (r : Located) → CasmFound file r → (r .number
 abbrev pub NoCountTold : Type 0
 NoCountTold = (body : List ℕ) (r : Counted) → BodyRead body r → (r .number ≡ 0 → ⊥) → r .count ≡ 0
 
--- find_group, every field of whose group is then 0
+-- find_group, every number of whose group is then 0, and its edition the one that is named first
 abbrev pub NoGroupTold : Type 0
 NoGroupTold =
     (body : List ℕ) (group : ℕ) (r : Grouped) → GroupFound body group r → (r .number ≡ 0 → ⊥)
-    → r .group ≡ record { at = 0; size = 0; text = 0; length = 0; ctabs = 0; records = 0; cntts = 0; seconds = 0 }
+    → r .group ≡ record { edition = First; at = 0; size = 0; text = 0; length = 0; ctabs = 0; records = 0; cntts = 0; seconds = 0 }
 
 -- find_part
 abbrev pub NoPartTold : Type 0

@@ -5,6 +5,7 @@ use mathlib.Core.Path.{_≡_}
 use mathlib.Core.Logic.{_↔_}
 use mathlib.Core.List.{List, flatMap}
 use lib.ListN.{length, take, set}
+use Rattle.layout.specs.declared.edition.Edition.{Edition}
 use Rattle.layout.specs.declared.turn.Run.the-variants.{Ended}
 use Rattle.layout.specs.declared.turn.Judged.the-variants.{Sound}
 use Rattle.layout.specs.declared.record.Record.{Record}
@@ -28,8 +29,8 @@ use Rattle.law_rounds.specs.Calls.{WholeTable, MayBeWritten, sizeOfGroup, Writt
 -- "reading accepted bytes and writing them gives those bytes", and what was read may be written
 abbrev pub ReadThenWritten : Type 0
 ReadThenWritten =
-    (p : List ℕ) (text ctabs cntts : ℕ) → Bytes p → groupAt p ≡ Sound text ctabs cntts
-    → (groupBytes (groupOf (payload p) text ctabs cntts) ≡ take (groupSize p) p) × Allowed (groupOf (payload p) text ctabs cntts)
+    (p : List ℕ) (edition : Edition) (text ctabs cntts : ℕ) → Bytes p → groupAt p ≡ Sound edition text ctabs cntts
+    → (groupBytes (groupOf edition (payload p) text ctabs cntts) ≡ take (groupSize p) p) × Allowed (groupOf edition (payload p) text ctabs cntts)
 
 -- "writing an allowed group and reading it gives that group", whatever stands behind it
 abbrev pub WrittenThenRead : Type 0

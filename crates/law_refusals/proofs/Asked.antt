@@ -12,7 +12,8 @@ use Rattle.layout.specs.declared.turn.Run.{Run}
 use Rattle.layout.specs.declared.turn.Run.the-variants.{Stopped, Ended}
 use Rattle.layout.specs.declared.record.Record.{Record}
 use Rattle.layout.specs.declared.answer.Standing.{Standing}
-use Rattle.layout.specs.Ranges.{firstEdition, ranges, outOf, firstOut}
+use Rattle.layout.specs.declared.edition.Edition.the-variants.{First}
+use Rattle.layout.specs.Ranges.{outAt, firstOut}
 use Rattle.layout.specs.Records.{bytesOf, channelOf}
 use Rattle.layout.specs.Sdec.{names}
 use Rattle.layout.specs.Answers.{Answer, refused, granted, afterRun}
@@ -59,14 +60,14 @@ module _ {A : Type 0} (P : ℕ → ℕ → Type 0) (s : List ℕ) where
   unfolding ofChannel rowIn
   of-channel-told g channel f ask tell =
       let x : Standing = standing s g in
-      let i : ℕ = ctabOf firstEdition s (x .ctabs) (x .records) channel in
+      let i : ℕ = ctabOf (x .edition) s (x .ctabs) (x .records) channel in
       of-group-told g (λ number place h. f number place (channel-of-group number place h))
       (cond (leb (x .records) i) (refused 15 0) (ask (rowOf x i))) (λ group.
       if-told (AnswerTold P) (leb (x .records) i) _ _
-      (λ e. f 15 0 (no-channel group (ctab-unseen s (x .ctabs) (x .records) channel (leb-true _ _ e))))
+      (λ e. f 15 0 (no-channel group (ctab-unseen (x .edition) s (x .ctabs) (x .records) channel (leb-true _ _ e))))
       (λ e.
       let l = leb-false (x .records) i e in
-      tell (rowOf x i) (record { group = group; row = i; within = l; source = ctab-seen s (x .ctabs) (x .records) channel l })))
+      tell (rowOf x i) (record { group = group; row = i; within = l; source = ctab-seen (x .edition) s (x .ctabs) (x .records) channel l })))
 
 -- no group has the part
 module _ (s : List ℕ) (n : ℕ) (name : List ℕ) where
@@ -80,14 +81,9 @@ module _ (s : List ℕ) (n : ℕ) (name : List ℕ) where
       if-told (AnswerTold P) (leb n (groupNamed s n name)) _ _ (λ e. f (part-none (leb-true _ _ e))) (λ e. tell (groupNamed s n name))
 
 -- the first byte of a new record out of its range
-edited-byte : (new : Record) (k : ℕ) → k ≡ firstEdited firstEdition new → k < 26 → FirstSuch (λ i. outOf ranges i (getD (bytesOf new) i 0)) 26 k
+edited-byte : (new : Record) (k : ℕ) → k ≡ firstEdited new → k < 26 → FirstSuch (outAt First (bytesOf new) 0) 26 k
 unfolding firstEdited firstOut
-edited-byte new k e l =
-    let test : ℕ → Bool = λ i. outOf ranges i (getD (bytesOf new) (0 + i) 0) in
-    let z : (i : ℕ) → 0 + i ≡ i = λ i. omega arith in
-    let f : FirstSuch test 26 k = rw e (first-such test 26 (rw e at l)) in
-    let at-k : test k ≡ true = f .passes in
-    record { within = l; passes = rw (z k) at at-k; before = λ i h. let at-i : test i ≡ false = f .before i h in rw (z i) at at-i }
+edited-byte new k e l = rw e (first-such (outAt First (bytesOf new) 0) 26 (rw e at l))
 
 -- ---- the questions
 
@@ -138,7 +134,7 @@ module _ (s : List ℕ) where
     unfolding edited
     edit-asked new =
         let P = EditAsked s g channel new in
-        let k : ℕ = firstEdited firstEdition new in
+        let k : ℕ = firstEdited new in
         of-channel-told P s g channel (λ number place h. edit-of-channel number place h) _ (λ row has.
         if-told (AnswerTold P) (not (eqb (channelOf new) channel)) _ _ (λ e. other-source has (eqb-false _ _ (not-true _ e))) (λ e.
         if-told (AnswerTold P) (ltb k 26) _ _

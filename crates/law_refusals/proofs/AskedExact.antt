@@ -9,7 +9,8 @@ use lib.ListN.{length, getD}
 use borrow.Author.Tests.{lt-ltb, le-leb, lt-leb, eq-eqb, ne-eqb}
 use Rattle.layout.specs.declared.record.Record.{Record}
 use Rattle.layout.specs.Lists.{has}
-use Rattle.layout.specs.Ranges.{firstEdition, ranges, outOf, firstOut}
+use Rattle.layout.specs.declared.edition.Edition.the-variants.{First}
+use Rattle.layout.specs.Ranges.{outAt, firstOut}
 use Rattle.layout.specs.Records.{bytesOf, channelOf}
 use Rattle.layout.specs.Sdec.{names}
 use Rattle.layout.specs.Answers.{Answer, refused, afterRun}
@@ -87,13 +88,13 @@ module _ (s : List ℕ) where
     channel-not _ _ (channel-of-group number place h) = group-not g _ number place h
     channel-not _ _ (no-channel h f) =
         let x = standing s g in
-        group-so g _ h ∙ rw (le-leb (x .records) _ (ctab-has-not s (x .ctabs) (x .records) channel f))
+        group-so g _ h ∙ rw (le-leb (x .records) _ (ctab-has-not (x .edition) s (x .ctabs) (x .records) channel f))
 
     channel-so : HasChannel s g channel → ofGroup s g (ofChannel s (standing s g) channel ask) ≡ ask (rowOf (standing s g) (rowIn s (standing s g) channel))
     unfolding ofChannel rowIn
     channel-so h =
         let x = standing s g in
-        group-so g _ (h .group) ∙ rw (lt-leb (x .records) _ (ctab-has s (x .ctabs) (x .records) channel (h .row) (h .within) (h .source)))
+        group-so g _ (h .group) ∙ rw (lt-leb (x .records) _ (ctab-has (x .edition) s (x .ctabs) (x .records) channel (h .row) (h .within) (h .source)))
 
   module _ (g channel number place : ℕ) where
     pub channel-answers : ChannelAsked s g channel number place → channelFound s g channel ≡ refused number place
@@ -105,11 +106,9 @@ module _ (s : List ℕ) where
     voice-answers h = channel-not g channel _ number place h
 
   -- the first byte of a new record out of its range
-  first-edited : (new : Record) (k : ℕ) → FirstSuch (λ i. outOf ranges i (getD (bytesOf new) i 0)) 26 k → firstEdited firstEdition new ≡ k
+  first-edited : (new : Record) (k : ℕ) → FirstSuch (outAt First (bytesOf new) 0) 26 k → firstEdited new ≡ k
   unfolding firstEdited firstOut
-  first-edited new k f =
-      let z : (i : ℕ) → 0 + i ≡ i = λ i. omega arith in
-      first-is (λ i. outOf ranges i (getD (bytesOf new) (0 + i) 0)) 26 k (f .within) (rw (z k) (f .passes)) (λ i l. rw (z i) (f .before i l))
+  first-edited new k f = first-is (outAt First (bytesOf new) 0) 26 k (f .within) (f .passes) (f .before)
 
   pub edit-answers : (g channel : ℕ) (new : Record) (number place : ℕ) → EditAsked s g channel new number place → edited s g channel new ≡ refused number place
   unfolding edited

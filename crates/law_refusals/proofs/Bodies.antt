@@ -44,7 +44,7 @@ module _ (s : List ℕ) where
   groups-before n short each =
       record {
         short = short;
-        groups = λ i l. let g = each i l in record { text = g .text; ctabs = g .ctabs; cntts = g .cntts; sound = g .sound };
+        groups = λ i l. let g = each i l in record { edition = g .edition; text = g .text; ctabs = g .ctabs; cntts = g .cntts; sound = g .sound };
         apart = λ i j name h l. unshared (textAt s (groupPlace s i)) (textAt s (groupPlace s j)) (names-apart s j (groupPlace s j) (ltb-false _ _ (each j l .apart)) i h) name;
       }
 
@@ -63,7 +63,7 @@ module _ (s : List ℕ) where
   unfolding groupTurn
   next k held m =
       let more = group-more s k (groupPlace s k) m in
-      let there = group-there s k (groupPlace s k) (more .text) (more .ctabs) (more .cntts) (held .0) (more .sound) in
+      let there = group-there s k (groupPlace s k) (more .edition) (more .text) (more .ctabs) (more .cntts) (held .0) (more .sound) in
       (rw (place-next s k (groupPlace s k) refl) (there .1 .1), (omega (arith, more .few), λ i l. go i (decLt i k) more l))
     where
       go : (i : ℕ) → Dec (i < k) → GroupMore s k (groupPlace s k) → i < k + 1 → GroupMore s i (groupPlace s i)
@@ -76,12 +76,12 @@ module _ (s : List ℕ) where
       → TurnTold (BodyRefused s) (afterContents s k (groupPlace s k) r)
   unfolding afterContents
   after-contents k before l head (Unsound number place) e h = group-refused k number place before l head h
-  after-contents k before l head (Sound text n m) e h =
+  after-contents k before l head (Sound ed text n m) e h =
       if-told (TurnTold (BodyRefused s)) (ltb (sharing s k (groupPlace s k)) k) _ _
       (λ f.
       let i = ltb-true _ _ f in
       let name = shared (textAt s (groupPlace s (sharing s k (groupPlace s k)))) (textAt s (groupPlace s k)) (name-shared s k (groupPlace s k) i) in
-      name-again (sharing s k (groupPlace s k)) k (name .0) before l (record { text = text; ctabs = n; cntts = m; sound = e }) i (name .1 .0) (name .1 .1))
+      name-again (sharing s k (groupPlace s k)) k (name .0) before l (record { edition = ed; text = text; ctabs = n; cntts = m; sound = e }) i (name .1 .0) (name .1 .1))
       (λ f. tt)
 
   turn-told : length s ≤ 32768 → (k : ℕ) → Kept k → TurnTold (BodyRefused s) (groupTurn s k)

@@ -79,7 +79,7 @@ module _ (s : List ℕ) where
 
     -- the header of a sound group
     sound-head : at ≤ length s → GroupStands (drop at s) → headFault s at CSEG ≡ 0
-    sound-head l g = sym (head-drop s CSEG at l) ∙ group-sound-is (drop at s) (g .text) (g .ctabs) (g .cntts) (g .sound) .head
+    sound-head l g = sym (head-drop s CSEG at l) ∙ group-sound-is (drop at s) (g .edition) (g .text) (g .ctabs) (g .cntts) (g .sound) .head
 
   -- ---- the groups before
 
@@ -92,7 +92,7 @@ module _ (s : List ℕ) where
     groups-within zero l = begins
     groups-within (suc i) l =
         let g = b .groups i (omega arith) in
-        let there = group-there s i (groupPlace s i) (g .text) (g .ctabs) (g .cntts) (groups-within i (omega arith)) (g .sound) in
+        let there = group-there s i (groupPlace s i) (g .edition) (g .text) (g .ctabs) (g .cntts) (groups-within i (omega arith)) (g .sound) in
         rw (← add-one i) (rw (place-next s i (groupPlace s i) refl) (there .1 .1))
 
     before-more : k ≤ 32 → (i : ℕ) → i < k → groupTurn s i ≡ More

@@ -10,7 +10,8 @@ use borrow.Author.Tests.{lt-ltb, le-ltb, le-leb, lt-leb, ne-eqb}
 use Rattle.layout.specs.declared.turn.Turn.the-variants.{Refused, More}
 use Rattle.layout.specs.declared.turn.Run.the-variants.{Stopped}
 use Rattle.layout.specs.Bytes.{word, Cntt}
-use Rattle.layout.specs.Ranges.{firstEdition, ranges, outOf, cnttValue}
+use Rattle.layout.specs.declared.edition.Edition.the-variants.{First}
+use Rattle.layout.specs.Ranges.{outOf, cnttValue}
 use Rattle.layout.specs.Group.{ctabOf, cnttChannel, cnttOf, outOfOrder, cnttFault, cnttAt, cnttTurn, cnttsOf}
 use Rattle.law_refusals.specs.Heads.{HeadRefused, Headed}
 use Rattle.law_refusals.specs.Contents.{ctabTag, ctabSource, cnttTag, cnttSource, CnttInRange, CnttsBefore}
@@ -59,11 +60,11 @@ module _ (c : List ℕ) (n : ℕ) where
       turn-size f = rw (ne-eqb at (length c) begun, head-none c at Cntt h, ne-eqb (word c (at + 4)) 2 f)
 
       module _ (size : word c (at + 4) ≡ 2) where
-        pub turn-channel : outOf ranges 0 (getD c (at + 8) 0) ≡ true → cnttTurn c p n q j ≡ Refused 9 (at + 8)
+        pub turn-channel : outOf First 0 0 (getD c (at + 8) 0) ≡ true → cnttTurn c p n q j ≡ Refused 9 (at + 8)
         unfolding cnttTurn cnttAt
         turn-channel e = rw (ne-eqb at (length c) begun, head-none c at Cntt h, size, e)
 
-        pub turn-value : outOf ranges 0 (getD c (at + 8) 0) ≡ false → cnttValue (getD c (at + 9) 0) ≡ false → cnttTurn c p n q j ≡ Refused 9 (at + 9)
+        pub turn-value : outOf First 0 0 (getD c (at + 8) 0) ≡ false → cnttValue (getD c (at + 9) 0) ≡ false → cnttTurn c p n q j ≡ Refused 9 (at + 9)
         unfolding cnttTurn cnttAt
         turn-value e f = rw (ne-eqb at (length c) begun, head-none c at Cntt h, size, e, f)
 
@@ -88,14 +89,14 @@ module _ (c : List ℕ) (n : ℕ) where
       fault-stray f =
           rw (
             le-ltb (cnttOf c q j (cnttSource c n j)) j (cntt-has-not c q j (cnttSource c n j) own),
-            le-leb n (ctabOf firstEdition c p n (cnttSource c n j)) (ctab-has-not c p n (cnttSource c n j) f),
+            le-leb n (ctabOf First c p n (cnttSource c n j)) (ctab-has-not First c p n (cnttSource c n j) f),
           )
 
-      fault-order : (home : ctabOf firstEdition c p n (cnttSource c n j) < n) (b : Bool) → outOfOrder c p n q j (cnttSource c n j) ≡ b
+      fault-order : (home : ctabOf First c p n (cnttSource c n j) < n) (b : Bool) → outOfOrder c p n q j (cnttSource c n j) ≡ b
           → cnttFault c p n q j (cnttSource c n j) ≡ cond b 11 0
       unfolding cnttFault
       fault-order home b e =
-          rw (le-ltb (cnttOf c q j (cnttSource c n j)) j (cntt-has-not c q j (cnttSource c n j) own), lt-leb n (ctabOf firstEdition c p n (cnttSource c n j)) home, e)
+          rw (le-ltb (cnttOf c q j (cnttSource c n j)) j (cntt-has-not c q j (cnttSource c n j) own), lt-leb n (ctabOf First c p n (cnttSource c n j)) home, e)
 
   module _ (j : ℕ) (b : CnttsBefore c n j) where
     -- the Ctabs of a Cntt and of the one before it
@@ -123,12 +124,12 @@ module _ (c : List ℕ) (n : ℕ) where
     before-more i l =
         let h = b .cntts i l in
         let home = h .home in
-        turn-more i (h .cntt) (fault-order i (h .apart) (ctab-has c p n (cnttSource c n i) (home .0) (home .1 .0) (home .1 .1)) false (order-not i l))
+        turn-more i (h .cntt) (fault-order i (h .apart) (ctab-has First c p n (cnttSource c n i) (home .0) (home .1 .0) (home .1 .1)) false (order-not i l))
 
     pub fault-late : (x y : ℕ) → ((i : ℕ) → i < j → cnttSource c n i ≡ cnttSource c n j → ⊥) → 0 < j → x < y → y < n
         → ctabSource c x ≡ cnttSource c n j → ctabSource c y ≡ cnttSource c n (j - 1) → cnttFault c p n q j (cnttSource c n j) ≡ 11
     fault-late x y own l m k e f =
-        fault-order j own (ctab-has c p n (cnttSource c n j) x (omega arith) e) true (order-so j x y l (omega arith) k e f m)
+        fault-order j own (ctab-has First c p n (cnttSource c n j) x (omega arith) e) true (order-so j x y l (omega arith) k e f m)
 
     pub cntts-within : cnttTag c n j ≤ length c
     cntts-within = go j refl

@@ -12,7 +12,8 @@ use Rattle.layout.specs.Scan.{first}
 use Rattle.layout.specs.declared.turn.Turn.the-variants.{Refused, More, Done}
 use Rattle.layout.specs.declared.turn.Run.the-variants.{Ended}
 use Rattle.layout.specs.Bytes.{word, tagAt, tagged, Sdec, Ctab, Cntt}
-use Rattle.layout.specs.Ranges.{firstEdition, ranges, outOf, firstOut}
+use Rattle.layout.specs.declared.edition.Edition.the-variants.{First}
+use Rattle.layout.specs.Ranges.{outAt, firstOut}
 use Rattle.layout.specs.Sdec.{soundText}
 use Rattle.layout.specs.Group.{headFault, ctabsOver, ctabChannel, ctabOf, ctabAt, ctabTurn, ctabsOf}
 use Rattle.layout.proofs.Scans.{first-passed, first-is}
@@ -25,7 +26,7 @@ use Rattle.law_refusals.proofs.Told.{TurnTold, RunTold, if-told, run-to
 use Rattle.law_refusals.proofs.Heads.{head-told, headed, first-such}
 
 -- among Ctabs whose source channels are their own, the one that has a channel is the first that has it
-pub ctab-only : (c : List ℕ) (n a channel : ℕ) → CtabsBefore c n → a < n → ctabSource c a ≡ channel → ctabOf firstEdition c (8 + word c 4) n channel ≡ a
+pub ctab-only : (c : List ℕ) (n a channel : ℕ) → CtabsBefore c n → a < n → ctabSource c a ≡ channel → ctabOf First c (8 + word c 4) n channel ≡ a
 unfolding ctabOf
 ctab-only c n a channel before l e =
     first-is (λ i. eqb (ctabSource c i) channel) n a l (eq-eqb _ _ e) (λ i h. ne-eqb _ _ (λ q. before .ctabs a l .apart i h (q ∙ sym e)))
@@ -37,26 +38,26 @@ module _ (c : List ℕ) (sdec : Headed c 0 Sdec) (text : soundText (take (word c
   start : Kept 0
   start = (omega (arith, sdec .within), record { sdec = sdec; text = text; ctabs = λ i h. absurd (omega arith) })
 
-  ranged : (n : ℕ) → Headed c (ctabTag c n) Ctab → word c (ctabTag c n + 4) ≡ 27 → 27 ≤ firstOut ranges c (ctabTag c n + 8) 27 → CtabInRange c n
+  ranged : (n : ℕ) → Headed c (ctabTag c n) Ctab → word c (ctabTag c n + 4) ≡ 27 → 27 ≤ firstOut First c (ctabTag c n + 8) 27 → CtabInRange c n
   unfolding firstOut
-  ranged n head size all = record { head = head; size = size; inside = λ k l. first-passed (λ k. outOf ranges k (getD c (ctabTag c n + 8 + k) 0)) 27 k (omega arith) }
+  ranged n head size all = record { head = head; length = size; inside = λ k l. first-passed (outAt First c (ctabTag c n + 8)) 27 k (omega arith) }
 
-  stands : (n : ℕ) → CtabMore c (8 + word c 4) n (ctabTag c n) → CtabStands c n
+  stands : (n : ℕ) → CtabMore First c (8 + word c 4) n (ctabTag c n) → CtabStands c n
   unfolding ctabChannel
   stands n more =
       record {
-        ctab = ranged n (headed c (ctabTag c n) Ctab (more .head)) (more .size) (more .inside);
-        apart = ctab-unseen c (8 + word c 4) n (getD c (ctabTag c n + 8) 0) (ltb-false _ _ (more .fresh));
+        ctab = ranged n (headed c (ctabTag c n) Ctab (more .head)) (more .length) (more .inside);
+        apart = ctab-unseen First c (8 + word c 4) n (getD c (ctabTag c n + 8) 0) (ltb-false _ _ (more .fresh));
       }
 
-  next : (n : ℕ) → Kept n → ctabTurn firstEdition c (8 + word c 4) n ≡ More → Kept (n + 1)
+  next : (n : ℕ) → Kept n → ctabTurn First c (8 + word c 4) n ≡ More → Kept (n + 1)
   next n held m =
-      let more = turn-more c (8 + word c 4) n m in (
-        omega (arith, ctab-fits c (8 + word c 4) n (ctabTag c n) more),
+      let more = turn-more First c (8 + word c 4) n m in (
+        omega (arith, ctab-fits First c (8 + word c 4) n (ctabTag c n) more),
         record { sdec = sdec; text = text; ctabs = λ i h. go i more (decLt i n) h },
       )
     where
-      go : (i : ℕ) → CtabMore c (8 + word c 4) n (ctabTag c n) → Dec (i < n) → i < n + 1 → CtabStands c i
+      go : (i : ℕ) → CtabMore First c (8 + word c 4) n (ctabTag c n) → Dec (i < n) → i < n + 1 → CtabStands c i
       go i more (yes a) h = held .1 .ctabs i a
       go i more (no a) h = let q : i ≡ n = omega arith in rw q (stands n more)
 
@@ -66,7 +67,7 @@ module _ (c : List ℕ) (sdec : Headed c 0 Sdec) (text : soundText (take (word c
       let n : at ≡ length c → ⊥ = λ e. true≢false (sym (over-end c at e) ∙ o) in
       (omega arith, λ h. tag-other c at Cntt (sym (over-tag c at n h) ∙ o))
 
-  turn-told : (n : ℕ) → Kept n → TurnTold (ContentsRefused c) (ctabTurn firstEdition c (8 + word c 4) n)
+  turn-told : (n : ℕ) → Kept n → TurnTold (ContentsRefused c) (ctabTurn First c (8 + word c 4) n)
   unfolding ctabTurn ctabAt firstOut ctabChannel
   turn-told n held =
       let p : ℕ = 8 + word c 4 in
@@ -79,15 +80,15 @@ module _ (c : List ℕ) (sdec : Headed c 0 Sdec) (text : soundText (take (word c
       let h = headed c at Ctab (eqb-true _ _ (not-false _ f)) in
       if-told T (not (eqb (word c (at + 4)) 27)) _ _ (λ g. ctab-size n b h (eqb-false _ _ (not-true _ g))) (λ g.
       let size = eqb-true (word c (at + 4)) 27 (not-false _ g) in
-      let test : ℕ → Bool = λ k. outOf ranges k (getD c (at + 8 + k) 0) in
+      let test : ℕ → Bool = outAt First c (at + 8) in
       if-told T (ltb (first test 0 27) 27) _ _ (λ i. ctab-byte n (first test 0 27) b h size (first-such test 27 (ltb-true _ _ i))) (λ i.
-      if-told T (ltb (ctabOf firstEdition c p n (getD c (at + 8) 0)) n) _ _
-      (λ j. let k = ltb-true _ _ j in ctab-again (ctabOf firstEdition c p n (getD c (at + 8) 0)) n b (ranged n h size (ltb-false _ _ i)) k (ctab-seen c p n (getD c (at + 8) 0) k))
+      if-told T (ltb (ctabOf First c p n (getD c (at + 8) 0)) n) _ _
+      (λ j. let k = ltb-true _ _ j in ctab-again (ctabOf First c p n (getD c (at + 8) 0)) n b (ranged n h size (ltb-false _ _ i)) k (ctab-seen First c p n (getD c (at + 8) 0) k))
       (λ j. tt)))))
 
-  pub ctabs-told : RunTold (ContentsRefused c) (ctabsOf c (8 + word c 4))
+  pub ctabs-told : RunTold (ContentsRefused c) (ctabsOf First c (8 + word c 4))
   unfolding ctabsOf
-  ctabs-told = run-told (ContentsRefused c) (ctabTurn firstEdition c (8 + word c 4)) Kept next (length c + 1) (λ n l held. turn-told n held) start
+  ctabs-told = run-told (ContentsRefused c) (ctabTurn First c (8 + word c 4)) Kept next (length c + 1) (λ n l held. turn-told n held) start
 
   -- n Ctabs that end: the group's end follows, or a Cntt
   over-is : (at : ℕ) → at < length c → ctabsOver c at ≡ true → (at + 8 ≤ length c) × (tagAt c at ≡ Cntt)
@@ -100,17 +101,17 @@ module _ (c : List ℕ) (sdec : Headed c 0 Sdec) (text : soundText (take (word c
       go false true false e g f q = absurd (false≢true q)
       go false false d e g f q = absurd (false≢true q)
 
-  turn-over : (n : ℕ) → ctabTurn firstEdition c (8 + word c 4) n ≡ Done → ctabsOver c (ctabTag c n) ≡ true
+  turn-over : (n : ℕ) → ctabTurn First c (8 + word c 4) n ≡ Done → ctabsOver c (ctabTag c n) ≡ true
   unfolding ctabTurn ctabAt
   turn-over n m =
-      go (ctabsOver c at) (eqb (headFault c at Ctab) 0) (eqb (word c (at + 4)) 27) (ltb (firstOut ranges c (at + 8) 27) 27)
-      (ltb (ctabOf firstEdition c (8 + word c 4) n (getD c (at + 8) 0)) n) refl m
+      go (ctabsOver c at) (eqb (headFault c at Ctab) 0) (eqb (word c (at + 4)) 27) (ltb (firstOut First c (at + 8) 27) 27)
+      (ltb (ctabOf First c (8 + word c 4) n (getD c (at + 8) 0)) n) refl m
     where
       at : ℕ
       at = ctabTag c n
 
       go : (a b d e f : Bool) → ctabsOver c at ≡ a
-          → cond a Done (cond (not b) (Refused (headFault c at Ctab) at) (cond (not d) (Refused 7 at) (cond e (Refused 9 (at + 8 + firstOut ranges c (at + 8) 27)) (cond f (Refused 10 at) More)))) ≡ Done
+          → cond a Done (cond (not b) (Refused (headFault c at Ctab) at) (cond (not d) (Refused 7 at) (cond e (Refused 9 (at + 8 + firstOut First c (at + 8) 27)) (cond f (Refused 10 at) More)))) ≡ Done
           → ctabsOver c at ≡ true
       go true b d e f h q = h
       go false false d e f h q = absurd (let z : _≡_ {A = ℕ} 0 1 = cc in omega arith)
@@ -119,9 +120,9 @@ module _ (c : List ℕ) (sdec : Headed c 0 Sdec) (text : soundText (take (word c
       go false true true false true h q = absurd (let z : _≡_ {A = ℕ} 0 1 = cc in omega arith)
       go false true true false false h q = absurd (let z : _≡_ {A = ℕ} 0 1 = cc in omega arith)
 
-  pub ctabs-end : (n : ℕ) → ctabsOf c (8 + word c 4) ≡ Ended n → Kept n × (ctabTag c n < length c → (ctabTag c n + 8 ≤ length c) × (tagAt c (ctabTag c n) ≡ Cntt))
+  pub ctabs-end : (n : ℕ) → ctabsOf First c (8 + word c 4) ≡ Ended n → Kept n × (ctabTag c n < length c → (ctabTag c n + 8 ≤ length c) × (tagAt c (ctabTag c n) ≡ Cntt))
   unfolding ctabsOf
   ctabs-end n e =
-      let r = run-ended (ctabTurn firstEdition c (8 + word c 4)) Kept next (length c + 1) n start e in
+      let r = run-ended (ctabTurn First c (8 + word c 4)) Kept next (length c + 1) n start e in
       let within : ctabTag c n ≤ length c = r .0 .0 in
       (r .0, λ l. over-is (ctabTag c n) l (turn-over n (r .1 (omega arith))))

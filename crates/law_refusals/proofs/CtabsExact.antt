@@ -10,7 +10,9 @@ use borrow.Author.Tests.{lt-ltb, le-ltb, ne-eqb}
 use Rattle.layout.specs.declared.turn.Turn.the-variants.{Refused, More, Done}
 use Rattle.layout.specs.declared.turn.Run.the-variants.{Stopped, Ended}
 use Rattle.layout.specs.Bytes.{word, tagAt, Ctab, Cntt}
-use Rattle.layout.specs.Ranges.{firstEdition, ranges, outOf, firstOut}
+use Rattle.layout.specs.declared.edition.Edition.{Edition}
+use Rattle.layout.specs.declared.edition.Edition.the-variants.{First}
+use Rattle.layout.specs.Ranges.{outAt, firstOut}
 use Rattle.layout.specs.Group.{ctabsOver, ctabChannel, ctabOf, ctabAt, ctabTurn, ctabsOf}
 use Rattle.layout.proofs.Scans.{first-none}
 use Rattle.layout.proofs.Ctabs.{over-end, over-cut, over-tag}
@@ -24,19 +26,19 @@ apart-tags : (t : List ℕ) → t ≡ Ctab → t ≡ Cntt → ⊥
 apart-tags t e f = let z : _≡_ {A = ℕ} 0x74 0x6E = ap (λ l. getD l 1 0) (sym e ∙ f) in omega arith
 
 -- whether a channel stands among n Ctabs
-module _ (c : List ℕ) (p n channel : ℕ) where
-  pub ctab-has : (i : ℕ) → i < n → ctabChannel firstEdition c p i ≡ channel → ctabOf firstEdition c p n channel < n
-  ctab-has i l e = go (decLt (ctabOf firstEdition c p n channel) n)
+module _ (ed : Edition) (c : List ℕ) (p n channel : ℕ) where
+  pub ctab-has : (i : ℕ) → i < n → ctabChannel ed c p i ≡ channel → ctabOf ed c p n channel < n
+  ctab-has i l e = go (decLt (ctabOf ed c p n channel) n)
     where
-      go : Dec (ctabOf firstEdition c p n channel < n) → ctabOf firstEdition c p n channel < n
+      go : Dec (ctabOf ed c p n channel < n) → ctabOf ed c p n channel < n
       go (yes a) = a
-      go (no a) = absurd (ctab-unseen c p n channel (omega arith) i l e)
+      go (no a) = absurd (ctab-unseen ed c p n channel (omega arith) i l e)
 
-  pub ctab-has-not : ((i : ℕ) → i < n → ctabChannel firstEdition c p i ≡ channel → ⊥) → n ≤ ctabOf firstEdition c p n channel
-  ctab-has-not f = go (decLt (ctabOf firstEdition c p n channel) n)
+  pub ctab-has-not : ((i : ℕ) → i < n → ctabChannel ed c p i ≡ channel → ⊥) → n ≤ ctabOf ed c p n channel
+  ctab-has-not f = go (decLt (ctabOf ed c p n channel) n)
     where
-      go : Dec (ctabOf firstEdition c p n channel < n) → n ≤ ctabOf firstEdition c p n channel
-      go (yes a) = absurd (f (ctabOf firstEdition c p n channel) a (ctab-seen c p n channel a))
+      go : Dec (ctabOf ed c p n channel < n) → n ≤ ctabOf ed c p n channel
+      go (yes a) = absurd (f (ctabOf ed c p n channel) a (ctab-seen ed c p n channel a))
       go (no a) = omega arith
 
 module _ (c : List ℕ) where
@@ -67,41 +69,41 @@ module _ (c : List ℕ) where
     p = 8 + word c 4
 
     pub turn-head : (number : ℕ) → (number ≡ 0 → ⊥) → at < length c → (at + 8 ≤ length c → tagAt c at ≡ Cntt → ⊥) → HeadRefused c at Ctab number
-        → ctabTurn firstEdition c p n ≡ Refused number at
+        → ctabTurn First c p n ≡ Refused number at
     unfolding ctabTurn ctabAt
     turn-head number z l f h = rw (not-over at l f, head-is c at Ctab number h, ne-eqb number 0 z)
 
     module _ (h : Headed c at Ctab) where
-      pub turn-size : (word c (at + 4) ≡ 27 → ⊥) → ctabTurn firstEdition c p n ≡ Refused 7 at
+      pub turn-size : (word c (at + 4) ≡ 27 → ⊥) → ctabTurn First c p n ≡ Refused 7 at
       unfolding ctabTurn ctabAt
       turn-size f = rw (ctab-not-over at h, head-none c at Ctab h, ne-eqb (word c (at + 4)) 27 f)
 
-      pub turn-byte : (k : ℕ) → word c (at + 4) ≡ 27 → FirstSuch (λ i. outOf ranges i (getD c (at + 8 + i) 0)) 27 k → ctabTurn firstEdition c p n ≡ Refused 9 (at + 8 + k)
+      pub turn-byte : (k : ℕ) → word c (at + 4) ≡ 27 → FirstSuch (outAt First c (at + 8)) 27 k → ctabTurn First c p n ≡ Refused 9 (at + 8 + k)
       unfolding ctabTurn ctabAt firstOut
       turn-byte k size f =
-          rw (ctab-not-over at h, head-none c at Ctab h, size, such-first (λ i. outOf ranges i (getD c (at + 8 + i) 0)) 27 k f, lt-ltb k 27 (f .within))
+          rw (ctab-not-over at h, head-none c at Ctab h, size, such-first (outAt First c (at + 8)) 27 k f, lt-ltb k 27 (f .within))
 
     module _ (w : CtabInRange c n) where
-      all-in : firstOut ranges c (at + 8) 27 ≡ 27
+      all-in : firstOut First c (at + 8) 27 ≡ 27
       unfolding firstOut
-      all-in = first-none (λ i. outOf ranges i (getD c (at + 8 + i) 0)) 27 (w .inside)
+      all-in = first-none (outAt First c (at + 8)) 27 (w .inside)
 
-      pub turn-again : (i : ℕ) → i < n → ctabSource c i ≡ ctabSource c n → ctabTurn firstEdition c p n ≡ Refused 10 at
+      pub turn-again : (i : ℕ) → i < n → ctabSource c i ≡ ctabSource c n → ctabTurn First c p n ≡ Refused 10 at
       unfolding ctabTurn ctabAt ctabChannel
       turn-again i l e =
-          rw (ctab-not-over at (w .head), head-none c at Ctab (w .head), w .size, all-in, lt-ltb (ctabOf firstEdition c p n (getD c (at + 8) 0)) n (ctab-has c p n (getD c (at + 8) 0) i l e))
+          rw (ctab-not-over at (w .head), head-none c at Ctab (w .head), w .length, all-in, lt-ltb (ctabOf First c p n (getD c (at + 8) 0)) n (ctab-has First c p n (getD c (at + 8) 0) i l e))
 
-      pub turn-more : ((i : ℕ) → i < n → ctabSource c i ≡ ctabSource c n → ⊥) → ctabTurn firstEdition c p n ≡ More
+      pub turn-more : ((i : ℕ) → i < n → ctabSource c i ≡ ctabSource c n → ⊥) → ctabTurn First c p n ≡ More
       unfolding ctabTurn ctabAt ctabChannel
       turn-more f =
-          rw (ctab-not-over at (w .head), head-none c at Ctab (w .head), w .size, all-in, le-ltb (ctabOf firstEdition c p n (getD c (at + 8) 0)) n (ctab-has-not c p n (getD c (at + 8) 0) f))
+          rw (ctab-not-over at (w .head), head-none c at Ctab (w .head), w .length, all-in, le-ltb (ctabOf First c p n (getD c (at + 8) 0)) n (ctab-has-not First c p n (getD c (at + 8) 0) f))
 
-    turn-over : at ≤ length c → (at < length c → (at + 8 ≤ length c) × (tagAt c at ≡ Cntt)) → ctabTurn firstEdition c p n ≡ Done
+    turn-over : at ≤ length c → (at < length c → (at + 8 ≤ length c) × (tagAt c at ≡ Cntt)) → ctabTurn First c p n ≡ Done
     unfolding ctabTurn ctabAt
     turn-over l f = rw (over-so at l f)
 
   module _ (n : ℕ) (b : CtabsBefore c n) where
-    before-more : (i : ℕ) → i < n → ctabTurn firstEdition c (8 + word c 4) i ≡ More
+    before-more : (i : ℕ) → i < n → ctabTurn First c (8 + word c 4) i ≡ More
     before-more i l = let h = b .ctabs i l in turn-more i (h .ctab) (h .apart)
 
     -- the Ctabs before stand within the contents
@@ -110,12 +112,12 @@ module _ (c : List ℕ) where
       where
         go : (k : ℕ) → k ≡ n → ctabTag c k ≤ length c
         go zero e = omega (arith, b .sdec .within)
-        go (suc k) e = let h = b .ctabs k (omega arith) .ctab in omega (arith, h .head .within, h .size)
+        go (suc k) e = let h = b .ctabs k (omega arith) .ctab in omega (arith, h .head .within, h .length)
 
-    pub ctabs-stop : (number place : ℕ) → ctabTurn firstEdition c (8 + word c 4) n ≡ Refused number place → ctabsOf c (8 + word c 4) ≡ Stopped number place
+    pub ctabs-stop : (number place : ℕ) → ctabTurn First c (8 + word c 4) n ≡ Refused number place → ctabsOf First c (8 + word c 4) ≡ Stopped number place
     unfolding ctabsOf
-    ctabs-stop number place t = run-reaches (ctabTurn firstEdition c (8 + word c 4)) (length c + 1) n number place (omega (arith, ctabs-within)) before-more t
+    ctabs-stop number place t = run-reaches (ctabTurn First c (8 + word c 4)) (length c + 1) n number place (omega (arith, ctabs-within)) before-more t
 
-    pub ctabs-over : (ctabTag c n < length c → (ctabTag c n + 8 ≤ length c) × (tagAt c (ctabTag c n) ≡ Cntt)) → ctabsOf c (8 + word c 4) ≡ Ended n
+    pub ctabs-over : (ctabTag c n < length c → (ctabTag c n + 8 ≤ length c) × (tagAt c (ctabTag c n) ≡ Cntt)) → ctabsOf First c (8 + word c 4) ≡ Ended n
     unfolding ctabsOf
-    ctabs-over f = run-comes-to (ctabTurn firstEdition c (8 + word c 4)) (length c + 1) n (omega (arith, ctabs-within)) before-more (turn-over n ctabs-within f)
+    ctabs-over f = run-comes-to (ctabTurn First c (8 + word c 4)) (length c + 1) n (omega (arith, ctabs-within)) before-more (turn-over n ctabs-within f)

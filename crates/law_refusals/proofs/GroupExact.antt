@@ -5,6 +5,7 @@ use mathlib.Core.List.{List}
 use native.Mathlib.Omega.{arith}
 use lib.ListN.{take, drop}
 use borrow.Author.Tests.{ne-eqb}
+use Rattle.layout.specs.declared.edition.Edition.the-variants.{First}
 use Rattle.layout.specs.declared.turn.Run.the-variants.{Stopped}
 use Rattle.layout.specs.declared.turn.Judged.the-variants.{Unsound}
 use Rattle.layout.specs.Bytes.{word, CSEG, Sdec}
@@ -26,7 +27,7 @@ some s at tag number h e = absurd (omega (arith, head-above s at tag number h))
 
 module _ (c : List ℕ) where
   -- the Ctabs stop
-  by-ctabs : (n : ℕ) → CtabsBefore c n → (number place : ℕ) → ctabsOf c (8 + word c 4) ≡ Stopped number place → contents c ≡ Unsound number place
+  by-ctabs : (n : ℕ) → CtabsBefore c n → (number place : ℕ) → ctabsOf First c (8 + word c 4) ≡ Stopped number place → contents c ≡ Unsound number place
   unfolding contents afterCtabs
   by-ctabs n b number place e = rw (head-none c 0 Sdec (b .sdec), b .text) (rw (e, afterCtabs))
 

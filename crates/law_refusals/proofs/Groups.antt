@@ -6,6 +6,7 @@ use mathlib.Core.List.{List}
 use lib.Dec.{eqb}
 use lib.ListN.{take, drop}
 use borrow.Author.Tests.{eqb-true, eqb-false, not-true, not-false}
+use Rattle.layout.specs.declared.edition.Edition.the-variants.{First}
 use Rattle.layout.specs.declared.turn.Run.{Run}
 use Rattle.layout.specs.declared.turn.Run.the-variants.{Stopped, Ended}
 use Rattle.layout.specs.declared.turn.Judged.{Judged}
@@ -23,13 +24,13 @@ use Rattle.law_refusals.proofs.Ctabs.{ctabs-told, ctabs-end}
 use Rattle.law_refusals.proofs.Cntts.{cntts-told}
 
 module _ (c : List ℕ) where
-  cntts-judged : (text n : ℕ) (r : Run) → RunTold (ContentsRefused c) r → JudgedTold (ContentsRefused c) (afterCntts text n r)
+  cntts-judged : (text n : ℕ) (r : Run) → RunTold (ContentsRefused c) r → JudgedTold (ContentsRefused c) (afterCntts First text n r)
   unfolding afterCntts
   cntts-judged text n (Stopped number place) h = h
   cntts-judged text n (Ended m) h = tt
 
-  ctabs-judged : Headed c 0 Sdec → soundText (take (word c 4) (drop 8 c)) ≡ true → (r : Run) → ctabsOf c (8 + word c 4) ≡ r → RunTold (ContentsRefused c) r
-      → JudgedTold (ContentsRefused c) (afterCtabs c (word c 4) r)
+  ctabs-judged : Headed c 0 Sdec → soundText (take (word c 4) (drop 8 c)) ≡ true → (r : Run) → ctabsOf First c (8 + word c 4) ≡ r → RunTold (ContentsRefused c) r
+      → JudgedTold (ContentsRefused c) (afterCtabs First c (word c 4) r)
   unfolding afterCtabs
   ctabs-judged sdec text (Stopped number place) e h = h
   ctabs-judged sdec text (Ended n) e h =
@@ -42,13 +43,13 @@ module _ (c : List ℕ) where
       if-told (JudgedTold (ContentsRefused c)) (not (eqb (headFault c 0 Sdec) 0)) _ _ (λ e. sdec-head (headFault c 0 Sdec) (head-told c 0 Sdec (not-true _ e))) (λ e.
       let h = headed c 0 Sdec (eqb-true _ _ (not-false _ e)) in
       if-told (JudgedTold (ContentsRefused c)) (not (soundText (take (word c 4) (drop 8 c)))) _ _ (λ f. sdec-text h (text-told _ (not-true _ f))) (λ f.
-      ctabs-judged h (not-false _ f) (ctabsOf c (8 + word c 4)) refl (ctabs-told c h (not-false _ f))))
+      ctabs-judged h (not-false _ f) (ctabsOf First c (8 + word c 4)) refl (ctabs-told c h (not-false _ f))))
 
 module _ (p : List ℕ) where
   behind-told : Headed p 0 CSEG → (word p 4 ≡ 0 → ⊥) → (r : Judged) → JudgedTold (ContentsRefused (payload p)) r → JudgedTold (GroupRefused p) (behindHeader r)
   unfolding behindHeader
   behind-told h some (Unsound number place) t = group-contents number place h some t
-  behind-told h some (Sound text n m) t = tt
+  behind-told h some (Sound ed text n m) t = tt
 
   pub group-told : JudgedTold (GroupRefused p) (groupAt p)
   unfolding groupAt

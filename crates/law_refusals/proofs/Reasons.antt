@@ -4,6 +4,7 @@ use native.Mathlib.Omega.{arith}
 use mathlib.Core.Path.{_≡_, refl}
 use mathlib.Core.List.{List, [], _∷_, append-nil, flatMap}
 use lib.ListN.{take, drop}
+use Rattle.layout.specs.declared.edition.Edition.{Edition}
 use Rattle.layout.specs.Lists.{All}
 use Rattle.layout.specs.declared.turn.Judged.{Judged}
 use Rattle.layout.specs.declared.turn.Judged.the-variants.{Unsound, Sound}
@@ -39,9 +40,9 @@ piece-kind p c number place e _ (piece-refused other at _ r) = let f = group-ans
 piece-kind p c number place e _ (other-bytes f) = absurd (no-true (f 0) (c .first))
 
 -- a sound group: none
-group-kind : (g : List ℕ) (t n m : ℕ) → groupAt g ≡ Sound t n m → (number : ℕ) → EntryRefused g number → 0 ≡ number
-group-kind g t n m e _ (piece-refused number place c r) = absurd (stands-not-refused g (record { text = t; ctabs = n; cntts = m; sound = e }) number place r)
-group-kind g t n m e _ (other-bytes f) = absurd (no-true (f 0) (sound-cseg g t n m e))
+group-kind : (g : List ℕ) (ed : Edition) (t n m : ℕ) → groupAt g ≡ Sound ed t n m → (number : ℕ) → EntryRefused g number → 0 ≡ number
+group-kind g ed t n m e _ (piece-refused number place c r) = absurd (stands-not-refused g (record { edition = ed; text = t; ctabs = n; cntts = m; sound = e }) number place r)
+group-kind g ed t n m e _ (other-bytes f) = absurd (no-true (f 0) (sound-cseg g ed t n m e))
 
 -- ---- each part
 
@@ -59,10 +60,10 @@ rest-reasons (b ∷ s) f = (record { only = λ z. other-bytes f; always = free-k
 
 listed-reasons : (p : List ℕ) → Piece p → (v : Judged) → groupAt p ≡ v → JudgedTold (GroupRefused p) v → AllReasons (listed p v)
 unfolding listed
-listed-reasons p c (Sound t n m) e h =
-    let own : groupAt (take (groupSize p) p) ≡ Sound t n m = rw append-nil at (sound-own p [] t n m e) in (
-      record { only = λ z. absurd (z refl); always = group-kind (take (groupSize p) p) t n m own },
-      rest-reasons (drop (groupSize p) p) (dropped-free p c (groupSize p) (omega (arith, size-some p t n m e))),
+listed-reasons p c (Sound ed t n m) e h =
+    let own : groupAt (take (groupSize p) p) ≡ Sound ed t n m = rw append-nil at (sound-own p [] ed t n m e) in (
+      record { only = λ z. absurd (z refl); always = group-kind (take (groupSize p) p) ed t n m own },
+      rest-reasons (drop (groupSize p) p) (dropped-free p c (groupSize p) (omega (arith, size-some p ed t n m e))),
     )
 listed-reasons p c (Unsound number place) e h = (record { only = λ z. piece-refused number place c h; always = piece-kind p c number place e }, tt)
 

@@ -1,6 +1,6 @@
 -- Refused records in memory: placement, writing, the screen; and the salvage list.
 use Prim.Native.Nat.{ℕ, _≤_, _<_}
-use mathlib.Core.Path.{_≡_, refl}
+use mathlib.Core.Path.{_≡_, refl, _∙_}
 use mathlib.Core.Bool.{Bool, true, false, not, _&&_, _||_, true≢false, false≢true}
 use mathlib.Core.List.{List}
 use native.Mathlib.Omega.{arith}
@@ -8,13 +8,15 @@ use lib.Dec.{ltb, leb, eqb}
 use lib.ListN.{length}
 use borrow.Author.Tests.{ltb-true, ltb-false, leb-true, leb-false, eqb-true, eqb-false}
 use Rattle.layout.specs.declared.record.Record.{Record}
-use Rattle.layout.specs.Ranges.{firstEdition, ranges, outOf}
-use Rattle.layout.specs.Records.{badByte, firstBad}
+use Rattle.layout.specs.declared.edition.Edition.the-variants.{First}
+use Rattle.layout.specs.Ranges.{outOf, ruleAt}
+use Rattle.layout.specs.Records.{bytesOf, badByte, firstBad}
 use Rattle.layout.specs.Salvage.{salvage, listNumbers, salvaged}
 use Rattle.layout.specs.Place.{effective, bypass, notePlaced}
 use Rattle.layout.specs.Screen.{fieldSet}
 use Rattle.layout.proofs.Scans.{first-passed}
 use Rattle.read_salvage.proofs.Room.{numbers-length}
+use Rattle.layout.proofs.Outs.{unruled-first}
 use Rattle.law_refusals.specs.Records.{FirstBadByte, InRange, PlaceRefused, root-out, note-out, record-byte, root-fixed, FieldRefused, index-out, value-out, SalvageRefused, list-over, list-short}
 use Rattle.law_refusals.proofs.Told.{AnswerTold, if-told}
 use Rattle.law_refusals.proofs.Heads.{first-such}
@@ -22,13 +24,13 @@ use Rattle.law_refusals.proofs.Heads.{first-such}
 -- ---- one record in memory
 
 module _ (r : Record) where
-  pub bad-byte : firstBad firstEdition r < 26 → FirstBadByte r (firstBad firstEdition r)
+  pub bad-byte : firstBad r < 26 → FirstBadByte r (firstBad r)
   unfolding firstBad
-  bad-byte h = first-such (badByte firstEdition r) 26 h
+  bad-byte h = first-such (badByte r) 26 h
 
-  pub in-range : 26 ≤ firstBad firstEdition r → InRange r
+  pub in-range : 26 ≤ firstBad r → InRange r
   unfolding firstBad
-  in-range h k l = first-passed (badByte firstEdition r) 26 k (omega arith)
+  in-range h k l = first-passed (badByte r) 26 k (omega arith)
 
   fixed : (root note : ℕ) → root < 12 → note < 128 → InRange r → not (bypass r) && eqb (r .rule) 1 ≡ true → PlaceRefused r root note 17 0
   unfolding bypass
@@ -48,7 +50,7 @@ module _ (r : Record) where
       let T = AnswerTold (PlaceRefused r root note) in
       if-told T (leb 12 root || leb 128 note) _ _ (λ e. over (leb 12 root) refl e) (λ e.
       let l = within (leb 12 root) (leb 128 note) refl refl e in
-      if-told T (ltb (firstBad firstEdition r) 26) _ _ (λ f. record-byte (firstBad firstEdition r) (l .0) (l .1) (bad-byte (ltb-true _ _ f))) (λ f.
+      if-told T (ltb (firstBad r) 26) _ _ (λ f. record-byte (firstBad r) (l .0) (l .1) (bad-byte (ltb-true _ _ f))) (λ f.
       if-told T (not (bypass r) && eqb (r .rule) 1) _ _ (λ g. fixed root note (l .0) (l .1) (in-range (ltb-false _ _ f)) g) (λ g. tt)))
     where
       over : (a : Bool) → leb 12 root ≡ a → a || leb 128 note ≡ true → PlaceRefused r root note 16 0
@@ -65,7 +67,7 @@ module _ (r : Record) where
   field-told index value =
       let T = AnswerTold (FieldRefused index value) in
       if-told T (leb 26 index) _ _ (λ e. index-out (leb-true _ _ e)) (λ e.
-      if-told T (outOf ranges index value) _ _ (λ f. value-out (leb-false _ _ e) f) (λ f. tt))
+      if-told T (outOf First index (ruleAt (bytesOf r) 0 index) value) _ _ (λ f. value-out (leb-false _ _ e) (unruled-first index 0 (ruleAt (bytesOf r) 0 index) value ∙ f)) (λ f. tt))
 
 -- ---- the salvage list
 

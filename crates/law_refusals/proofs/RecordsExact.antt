@@ -9,11 +9,12 @@ use lib.Dec.{leb}
 use lib.ListN.{length, getD, take}
 use lib.Seq.{length-take-le, getD-take}
 use borrow.Author.Tests.{lt-ltb, le-ltb, le-leb, lt-leb, ne-eqb}
+use Rattle.layout.specs.Ranges.{ruleAt}
 use Rattle.layout.specs.declared.turn.Turn.the-variants.{Refused, More}
 use Rattle.layout.specs.declared.turn.Run.the-variants.{Stopped, Ended}
 use Rattle.layout.specs.declared.record.Record.{Record}
-use Rattle.layout.specs.Ranges.{firstEdition}
-use Rattle.layout.specs.Records.{blank, channelOf, badByte, firstBad}
+use Rattle.layout.specs.declared.edition.Edition.the-variants.{First}
+use Rattle.layout.specs.Records.{bytesOf, blank, channelOf, badByte, firstBad}
 use Rattle.layout.specs.Answers.{refused, afterRun}
 use Rattle.layout.specs.Salvage.{salvage, listNumbers, salvaged}
 use Rattle.layout.specs.Place.{effective, bypass, notePlaced}
@@ -22,6 +23,7 @@ use Rattle.layout.specs.Screen.{fieldSet}
 use Rattle.layout.proofs.Scans.{first-none}
 use Rattle.layout.proofs.Runs.{run-end}
 use Rattle.read_salvage.proofs.Room.{numbers-length}
+use Rattle.layout.proofs.Outs.{unruled-first}
 use Rattle.law_refusals.specs.Records.{FirstBadByte, InRange, PlaceRefused, root-out, note-out, record-byte, root-fixed, RecordsBefore, WriteRefused, count-over, text-broken, table-byte, table-again, buffer-short}
 use Rattle.law_refusals.specs.Records.{FieldRefused, index-out, value-out, SalvageRefused, list-over, list-short}
 use Rattle.law_refusals.proofs.Reached.{run-from, run-reaches, such-first}
@@ -31,13 +33,13 @@ use Rattle.law_refusals.proofs.Written.{record-seen, record-unseen}
 -- ---- one record in memory
 
 module _ (r : Record) where
-  bad-is : (k : ℕ) → FirstBadByte r k → firstBad firstEdition r ≡ k
+  bad-is : (k : ℕ) → FirstBadByte r k → firstBad r ≡ k
   unfolding firstBad
-  bad-is k f = such-first (badByte firstEdition r) 26 k f
+  bad-is k f = such-first (badByte r) 26 k f
 
-  bad-none : InRange r → firstBad firstEdition r ≡ 26
+  bad-none : InRange r → firstBad r ≡ 26
   unfolding firstBad
-  bad-none f = first-none (badByte firstEdition r) 26 f
+  bad-none f = first-none (badByte r) 26 f
 
   pub place-answers : (root note number place : ℕ) → PlaceRefused r root note number place → notePlaced r root note ≡ refused number place
   unfolding notePlaced bypass
@@ -50,18 +52,18 @@ module _ (r : Record) where
   pub field-answers : (index value number place : ℕ) → FieldRefused index value number place → fieldSet r index value ≡ refused number place
   unfolding fieldSet
   field-answers index value _ _ (index-out l) = rw (le-leb 26 index l)
-  field-answers index value _ _ (value-out l e) = rw (lt-leb 26 index l, e)
+  field-answers index value _ _ (value-out l e) = rw (lt-leb 26 index l, unruled-first index (ruleAt (bytesOf r) 0 index) 0 value, e)
 
 -- ---- writing
 
 module _ (rs : List Record) where
   module _ (i : ℕ) where
-    turn-byte : (k : ℕ) → FirstBadByte (getD rs i blank) k → recordTurn firstEdition rs i ≡ Refused 9 (27 * i + k)
+    turn-byte : (k : ℕ) → FirstBadByte (getD rs i blank) k → recordTurn rs i ≡ Refused 9 (27 * i + k)
     unfolding recordTurn
     turn-byte k f = rw (bad-is (getD rs i blank) k f, lt-ltb k 26 (f .within))
 
     module _ (f : InRange (getD rs i blank)) where
-      turn-again : (j : ℕ) → j < i → channelOf (getD rs j blank) ≡ channelOf (getD rs i blank) → recordTurn firstEdition rs i ≡ Refused 10 (27 * i)
+      turn-again : (j : ℕ) → j < i → channelOf (getD rs j blank) ≡ channelOf (getD rs i blank) → recordTurn rs i ≡ Refused 10 (27 * i)
       unfolding recordTurn
       turn-again j l e = rw (bad-none (getD rs i blank) f, lt-ltb (recordOn rs i (channelOf (getD rs i blank))) i (go (decLt _ i)))
         where
@@ -69,7 +71,7 @@ module _ (rs : List Record) where
           go (yes a) = a
           go (no a) = absurd (record-unseen rs i (channelOf (getD rs i blank)) (omega arith) j l e)
 
-      turn-more : ((j : ℕ) → j < i → channelOf (getD rs j blank) ≡ channelOf (getD rs i blank) → ⊥) → recordTurn firstEdition rs i ≡ More
+      turn-more : ((j : ℕ) → j < i → channelOf (getD rs j blank) ≡ channelOf (getD rs i blank) → ⊥) → recordTurn rs i ≡ More
       unfolding recordTurn
       turn-more g = rw (bad-none (getD rs i blank) f, le-ltb (recordOn rs i (channelOf (getD rs i blank))) i (go (decLt _ i)))
         where
@@ -78,16 +80,16 @@ module _ (rs : List Record) where
           go (no a) = omega arith
 
   module _ (k : ℕ) (b : RecordsBefore rs k) where
-    before-more : (i : ℕ) → i < k → recordTurn firstEdition rs i ≡ More
+    before-more : (i : ℕ) → i < k → recordTurn rs i ≡ More
     before-more i l = turn-more i (b .inside i l) (λ j h. b .apart j i h l)
 
-    records-stop : (number place : ℕ) → k < length rs → recordTurn firstEdition rs k ≡ Refused number place → recordsRun firstEdition rs ≡ Stopped number place
+    records-stop : (number place : ℕ) → k < length rs → recordTurn rs k ≡ Refused number place → recordsRun rs ≡ Stopped number place
     unfolding recordsRun
-    records-stop number place l t = run-reaches (recordTurn firstEdition rs) (length rs) k number place l before-more t
+    records-stop number place l t = run-reaches (recordTurn rs) (length rs) k number place l before-more t
 
-    records-end : length rs ≡ k → recordsRun firstEdition rs ≡ Ended k
+    records-end : length rs ≡ k → recordsRun rs ≡ Ended k
     unfolding recordsRun
-    records-end e = run-from (recordTurn firstEdition rs) (length rs) k (omega arith) before-more ∙ run-end (recordTurn firstEdition rs) k (length rs) e
+    records-end e = run-from (recordTurn rs) (length rs) k (omega arith) before-more ∙ run-end (recordTurn rs) k (length rs) e
 
 module _ (text : List ℕ) (table : List Record) (count room : ℕ) where
   -- the records that are written are those of the table

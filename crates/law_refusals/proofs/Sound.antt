@@ -39,4 +39,4 @@ group-stands p = (stands-not-refused p, λ h. go (groupAt p) refl (group-told p)
   where
     go : (v : Judged) → groupAt p ≡ v → JudgedTold (GroupRefused p) v → ((number place : ℕ) → GroupRefused p number place → ⊥) → GroupStands p
     go (Unsound number place) e r h = absurd (h number place r)
-    go (Sound t n m) e r h = record { text = t; ctabs = n; cntts = m; sound = e }
+    go (Sound ed t n m) e r h = record { edition = ed; text = t; ctabs = n; cntts = m; sound = e }

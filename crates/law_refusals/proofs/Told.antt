@@ -31,7 +31,7 @@ module _ (P : ℕ → ℕ → Type 0) where
   -- of a verdict
   abbrev pub JudgedTold : Judged → Type 0
   JudgedTold (Unsound number place) = P number place
-  JudgedTold (Sound text n m) = Unit {0}
+  JudgedTold (Sound ed text n m) = Unit {0}
 
   -- of an answer
   abbrev pub AnswerTold : {A : Type 0} → Answer A → Type 0

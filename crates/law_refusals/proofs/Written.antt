@@ -12,7 +12,7 @@ use borrow.Author.Tests.{ltb-true, ltb-false, eqb-true, eqb-false, not-true, not
 use Rattle.layout.specs.declared.turn.Turn.the-variants.{Refused, More, Done}
 use Rattle.layout.specs.declared.turn.Run.the-variants.{Ended}
 use Rattle.layout.specs.declared.record.Record.{Record}
-use Rattle.layout.specs.Ranges.{firstEdition}
+use Rattle.layout.specs.declared.edition.Edition.the-variants.{First}
 use Rattle.layout.specs.Records.{blank, channelOf, firstBad}
 use Rattle.layout.specs.Sdec.{soundText}
 use Rattle.layout.specs.Write.{groupBytes, recordOn, recordTurn, recordsRun, groupFrom, written}
@@ -38,33 +38,33 @@ module _ (rs : List Record) where
   start : RecordsBefore rs 0
   start = record { inside = λ i h. absurd (omega arith); apart = λ i j h k. absurd (omega arith) }
 
-  turn-more : (i : ℕ) → recordTurn firstEdition rs i ≡ More
-      → (26 ≤ firstBad firstEdition (getD rs i blank)) × (i ≤ recordOn rs i (channelOf (getD rs i blank)))
+  turn-more : (i : ℕ) → recordTurn rs i ≡ More
+      → (26 ≤ firstBad (getD rs i blank)) × (i ≤ recordOn rs i (channelOf (getD rs i blank)))
   unfolding recordTurn
-  turn-more i m = go (ltb (firstBad firstEdition (getD rs i blank)) 26) (ltb (recordOn rs i (channelOf (getD rs i blank))) i) refl refl m
+  turn-more i m = go (ltb (firstBad (getD rs i blank)) 26) (ltb (recordOn rs i (channelOf (getD rs i blank))) i) refl refl m
     where
-      go : (a b : Bool) → ltb (firstBad firstEdition (getD rs i blank)) 26 ≡ a → ltb (recordOn rs i (channelOf (getD rs i blank))) i ≡ b
-          → cond a (Refused 9 (27 * i + firstBad firstEdition (getD rs i blank))) (cond b (Refused 10 (27 * i)) More) ≡ More
-          → (26 ≤ firstBad firstEdition (getD rs i blank)) × (i ≤ recordOn rs i (channelOf (getD rs i blank)))
+      go : (a b : Bool) → ltb (firstBad (getD rs i blank)) 26 ≡ a → ltb (recordOn rs i (channelOf (getD rs i blank))) i ≡ b
+          → cond a (Refused 9 (27 * i + firstBad (getD rs i blank))) (cond b (Refused 10 (27 * i)) More) ≡ More
+          → (26 ≤ firstBad (getD rs i blank)) × (i ≤ recordOn rs i (channelOf (getD rs i blank)))
       go true b e f q = absurd (let z : _≡_ {A = ℕ} 0 1 = cc in omega arith)
       go false true e f q = absurd (let z : _≡_ {A = ℕ} 0 1 = cc in omega arith)
       go false false e f q = (ltb-false _ _ e, ltb-false _ _ f)
 
-  not-done : (i : ℕ) → recordTurn firstEdition rs i ≡ Done → ⊥
+  not-done : (i : ℕ) → recordTurn rs i ≡ Done → ⊥
   unfolding recordTurn
-  not-done i m = go (ltb (firstBad firstEdition (getD rs i blank)) 26) (ltb (recordOn rs i (channelOf (getD rs i blank))) i) m
+  not-done i m = go (ltb (firstBad (getD rs i blank)) 26) (ltb (recordOn rs i (channelOf (getD rs i blank))) i) m
     where
-      go : (a b : Bool) → cond a (Refused 9 (27 * i + firstBad firstEdition (getD rs i blank))) (cond b (Refused 10 (27 * i)) More) ≡ Done → ⊥
+      go : (a b : Bool) → cond a (Refused 9 (27 * i + firstBad (getD rs i blank))) (cond b (Refused 10 (27 * i)) More) ≡ Done → ⊥
       go true b q = let z : _≡_ {A = ℕ} 0 1 = cc in omega arith
       go false true q = let z : _≡_ {A = ℕ} 0 1 = cc in omega arith
       go false false q = let z : _≡_ {A = ℕ} 0 1 = cc in omega arith
 
-  next : (i : ℕ) → RecordsBefore rs i → recordTurn firstEdition rs i ≡ More → RecordsBefore rs (i + 1)
+  next : (i : ℕ) → RecordsBefore rs i → recordTurn rs i ≡ More → RecordsBefore rs (i + 1)
   next i held m =
       let more = turn-more i m in
       record { inside = λ j l. inside j (decLt j i) (more .0) l; apart = λ a b h l. apart a b h (decLt b i) (more .1) l }
     where
-      inside : (j : ℕ) → Dec (j < i) → 26 ≤ firstBad firstEdition (getD rs i blank) → j < i + 1 → InRange (getD rs j blank)
+      inside : (j : ℕ) → Dec (j < i) → 26 ≤ firstBad (getD rs i blank) → j < i + 1 → InRange (getD rs j blank)
       inside j (yes d) h l = held .inside j d
       inside j (no d) h l = let q : j ≡ i = omega arith in rw q (in-range (getD rs i blank) h)
 
@@ -96,11 +96,11 @@ module _ (text : List ℕ) (table : List Record) (count room : ℕ) (few : count
   channel-there : (a b c d : Record) → a ≡ c → b ≡ d → channelOf a ≡ channelOf b → channelOf c ≡ channelOf d
   channel-there a b c d e f h = rw (← e, ← f) h
 
-  turn-told : (i : ℕ) → i < count → RecordsBefore rs i → TurnTold (WriteRefused text table count room) (recordTurn firstEdition rs i)
+  turn-told : (i : ℕ) → i < count → RecordsBefore rs i → TurnTold (WriteRefused text table count room) (recordTurn rs i)
   unfolding recordTurn
   turn-told i l held =
       let r : Record = getD rs i blank in
-      let k : ℕ = firstBad firstEdition r in
+      let k : ℕ = firstBad r in
       let j : ℕ = recordOn rs i (channelOf r) in
       let known = before i (omega arith) held in
       if-told (TurnTold (WriteRefused text table count room)) (ltb k 26) _ _
@@ -116,20 +116,20 @@ module _ (text : List ℕ) (table : List Record) (count room : ℕ) (few : count
   size : length rs ≡ count
   size = length-take-le count table few
 
-  records-told : RunTold (WriteRefused text table count room) (recordsRun firstEdition rs)
+  records-told : RunTold (WriteRefused text table count room) (recordsRun rs)
   unfolding recordsRun
   records-told =
-      run-told (WriteRefused text table count room) (recordTurn firstEdition rs) (RecordsBefore rs) (next rs) (length rs)
+      run-told (WriteRefused text table count room) (recordTurn rs) (RecordsBefore rs) (next rs) (length rs)
       (λ i l held. turn-told i (rw size at l) held) (start rs)
 
-  all-before : (n : ℕ) → recordsRun firstEdition rs ≡ Ended n → RecordsBefore table count
+  all-before : (n : ℕ) → recordsRun rs ≡ Ended n → RecordsBefore table count
   unfolding recordsRun
   all-before n e =
-      let r = run-ended (recordTurn firstEdition rs) (RecordsBefore rs) (next rs) (length rs) n (start rs) e in
+      let r = run-ended (recordTurn rs) (RecordsBefore rs) (next rs) (length rs) n (start rs) e in
       let l : count ≤ n = whole (decLt n count) (r .1) in
       before count (omega arith) (record { inside = λ i h. r .0 .inside i (omega arith); apart = λ i j h k. r .0 .apart i j h (omega arith) })
     where
-      whole : Dec (n < count) → (n < length rs → recordTurn firstEdition rs n ≡ Done) → count ≤ n
+      whole : Dec (n < count) → (n < length rs → recordTurn rs n ≡ Done) → count ≤ n
       whole (yes a) f = absurd (not-done rs n (f (rw size a)))
       whole (no a) f = omega arith
 
@@ -140,7 +140,7 @@ write-told text table count room =
     if-told (AnswerTold P) (ltb (length table) count) _ _ (λ e. count-over (ltb-true _ _ e)) (λ e.
     let few = ltb-false (length table) count e in
     if-told (AnswerTold P) (not (soundText text)) _ _ (λ f. text-broken few (text-told text (not-true _ f))) (λ f.
-    after-told P (recordsRun firstEdition (take count table)) _ (records-told text table count room few (not-false _ f)) (λ n g.
+    after-told P (recordsRun (take count table)) _ (records-told text table count room few (not-false _ f)) (λ n g.
     if-told (AnswerTold P) (ltb room (length (groupBytes (groupFrom text table count)))) _ _
     (λ h. buffer-short few (not-false _ f) (all-before text table count room few (not-false _ f) n g) (ltb-true _ _ h))
     (λ h. tt))))

@@ -5,8 +5,9 @@ use mathlib.Core.List.{List}
 use lib.ListN.{length, getD}
 use Rattle.layout.specs.declared.record.Record.{Record}
 use Rattle.layout.specs.Refusals.{outOfRange, noRoom, notThere, badNumber}
-use Rattle.layout.specs.Ranges.{firstEdition, ranges, outOf}
-use Rattle.layout.specs.Records.{bytesOf, channelOf}
+use Rattle.layout.specs.Editions.{held}
+use Rattle.layout.specs.Ranges.{outAt}
+use Rattle.layout.specs.Records.{bytesOf, channelOf, editionOf}
 use Rattle.layout.specs.Group.{ctabChannel}
 use Rattle.layout.specs.Body.{groupNo}
 use Rattle.layout.specs.Asked.{standing}
@@ -61,7 +62,7 @@ pub data PlayersAsked (s name : List ℕ) (root type : ℕ) : ℕ → ℕ → Ty
 
 -- the source channel of Ctab number i of group number g
 abbrev pub sourceIn : List ℕ → ℕ → ℕ → ℕ
-sourceIn s g i = ctabChannel firstEdition s (standing s g .ctabs) i
+sourceIn s g i = ctabChannel (standing s g .edition) s (standing s g .ctabs) i
 
 pub data ChannelAsked (s : List ℕ) (g channel : ℕ) : ℕ → ℕ → Type 0 where
   channel-of-group : (number place : ℕ) → GroupAsked s g number place → ChannelAsked s g channel number place
@@ -80,5 +81,5 @@ pub data EditAsked (s : List ℕ) (g channel : ℕ) (new : Record) : ℕ → ℕ
   -- 16: "an edit with another source channel", at 0
   other-source : HasChannel s g channel → (channelOf new ≡ channel → ⊥) → EditAsked s g channel new badNumber 0
   -- 9: "byte out of range, first one"; "in an edit .. it is the byte"; "a Cntt given with the new record is neither read nor checked"
-  new-byte : (k : ℕ) → HasChannel s g channel → channelOf new ≡ channel → FirstSuch (λ i. outOf ranges i (getD (bytesOf new) i 0)) (firstEdition .held) k
+  new-byte : (k : ℕ) → HasChannel s g channel → channelOf new ≡ channel → FirstSuch (outAt (editionOf new) (bytesOf new) 0) (held (editionOf new)) k
       → EditAsked s g channel new outOfRange k

@@ -4,6 +4,7 @@ use mathlib.Core.Path.{_≡_}
 use mathlib.Core.Bool.{true}
 use mathlib.Core.List.{List}
 use lib.ListN.{length, drop}
+use Rattle.layout.specs.declared.edition.Edition.{Edition}
 use Rattle.layout.specs.declared.turn.Judged.the-variants.{Sound}
 use Rattle.layout.specs.Lists.{has}
 use Rattle.layout.specs.Bytes.{word, CSEG}
@@ -28,10 +29,11 @@ pub data GroupRefused (p : List ℕ) : ℕ → ℕ → Type 0 where
 
 -- the bytes p begin with a sound group
 pub record GroupStands (p : List ℕ) : Type 0 where
+  pub edition : Edition
   pub text : ℕ
   pub ctabs : ℕ
   pub cntts : ℕ
-  pub sound : groupAt p ≡ Sound text ctabs cntts
+  pub sound : groupAt p ≡ Sound edition text ctabs cntts
 
 -- this name is one of those of group number k
 abbrev pub Named : List ℕ → ℕ → List ℕ → Type 0

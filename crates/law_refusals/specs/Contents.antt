@@ -7,7 +7,9 @@ use mathlib.Core.List.{List}
 use lib.ListN.{length, getD, take, drop}
 use Rattle.layout.specs.Bytes.{word, tagAt, Sdec, Ctab, Cntt}
 use Rattle.layout.specs.Refusals.{badSize, badText, outOfRange, channelAgain, strayCntt}
-use Rattle.layout.specs.Ranges.{firstEdition, ranges, outOf, cnttValue}
+use Rattle.layout.specs.declared.edition.Edition.the-variants.{First}
+use Rattle.layout.specs.Editions.{size}
+use Rattle.layout.specs.Ranges.{outOf, outAt, cnttValue}
 use Rattle.layout.specs.Sdec.{soundText}
 use Rattle.layout.specs.Group.{ctabPlace, ctabChannel, cnttPlace, cnttChannel}
 use Rattle.law_refusals.specs.Heads.{HeadRefused, Headed}
@@ -24,11 +26,11 @@ pub record FirstSuch (test : ℕ → Bool) (n k : ℕ) : Type 0 where
 module _ (c : List ℕ) where
   -- the tag of Ctab number n, after the Sdec and n Ctabs
   abbrev pub ctabTag : ℕ → ℕ
-  ctabTag n = ctabPlace firstEdition (8 + word c 4) n
+  ctabTag n = ctabPlace First (8 + word c 4) n
 
   -- its source channel
   abbrev pub ctabSource : ℕ → ℕ
-  ctabSource n = ctabChannel firstEdition c (8 + word c 4) n
+  ctabSource n = ctabChannel First c (8 + word c 4) n
 
   -- the tag of Cntt number j after n Ctabs
   abbrev pub cnttTag : ℕ → ℕ → ℕ
@@ -43,8 +45,8 @@ module _ (c : List ℕ) where
 -- Ctab number n: its header, its size, its bytes in range
 pub record CtabInRange (c : List ℕ) (n : ℕ) : Type 0 where
   pub head : Headed c (ctabTag c n) Ctab
-  pub size : word c (ctabTag c n + 4) ≡ firstEdition .size
-  pub inside : (k : ℕ) → k < firstEdition .size → outOf ranges k (getD c (ctabTag c n + 8 + k) 0) ≡ false
+  pub length : word c (ctabTag c n + 4) ≡ size First
+  pub inside : (k : ℕ) → k < size First → outAt First c (ctabTag c n + 8) k ≡ false
 
 -- .. and its source channel its own
 pub record CtabStands (c : List ℕ) (n : ℕ) : Type 0 where
@@ -61,7 +63,7 @@ pub record CtabsBefore (c : List ℕ) (n : ℕ) : Type 0 where
 pub record CnttInRange (c : List ℕ) (n j : ℕ) : Type 0 where
   pub head : Headed c (cnttTag c n j) Cntt
   pub size : word c (cnttTag c n j + 4) ≡ 2
-  pub channel : outOf ranges 0 (getD c (cnttTag c n j + 8) 0) ≡ false
+  pub channel : outOf First 0 0 (getD c (cnttTag c n j + 8) 0) ≡ false
   pub value : cnttValue (getD c (cnttTag c n j + 9) 0) ≡ true
 
 -- .. and its source channel its own, and that of a Ctab, no earlier than that of the Cntt before
@@ -88,10 +90,10 @@ pub data ContentsRefused (c : List ℕ) : ℕ → ℕ → Type 0 where
   ctab-head : (n number : ℕ) → CtabsBefore c n → ctabTag c n < length c → (ctabTag c n + 8 ≤ length c → tagAt c (ctabTag c n) ≡ Cntt → ⊥)
       → HeadRefused c (ctabTag c n) Ctab number → ContentsRefused c number (ctabTag c n)
   -- 7: "Ctab not 27", at its tag
-  ctab-size : (n : ℕ) → CtabsBefore c n → Headed c (ctabTag c n) Ctab → (word c (ctabTag c n + 4) ≡ firstEdition .size → ⊥) → ContentsRefused c badSize (ctabTag c n)
+  ctab-size : (n : ℕ) → CtabsBefore c n → Headed c (ctabTag c n) Ctab → (word c (ctabTag c n + 4) ≡ size First → ⊥) → ContentsRefused c badSize (ctabTag c n)
   -- 9: "byte out of range, first one", at the byte
-  ctab-byte : (n k : ℕ) → CtabsBefore c n → Headed c (ctabTag c n) Ctab → word c (ctabTag c n + 4) ≡ firstEdition .size
-      → FirstSuch (λ i. outOf ranges i (getD c (ctabTag c n + 8 + i) 0)) (firstEdition .size) k → ContentsRefused c outOfRange (ctabTag c n + 8 + k)
+  ctab-byte : (n k : ℕ) → CtabsBefore c n → Headed c (ctabTag c n) Ctab → word c (ctabTag c n + 4) ≡ size First
+      → FirstSuch (outAt First c (ctabTag c n + 8)) (size First) k → ContentsRefused c outOfRange (ctabTag c n + 8 + k)
   -- 10: "second Ctab .. of a channel", at the later tag
   ctab-again : (i n : ℕ) → CtabsBefore c n → CtabInRange c n → i < n → ctabSource c i ≡ ctabSource c n → ContentsRefused c channelAgain (ctabTag c n)
   -- 2, 6, 2: a child's header after n Ctabs and j Cntts, at its tag
@@ -100,10 +102,10 @@ pub data ContentsRefused (c : List ℕ) : ℕ → ℕ → Type 0 where
   cntt-size : (n j : ℕ) → CnttsBefore c n j → Headed c (cnttTag c n j) Cntt → (word c (cnttTag c n j + 4) ≡ 2 → ⊥) → ContentsRefused c badSize (cnttTag c n j)
   -- 9: "byte out of range, first one", at the byte: the source channel ..
   cntt-channel : (n j : ℕ) → CnttsBefore c n j → Headed c (cnttTag c n j) Cntt → word c (cnttTag c n j + 4) ≡ 2
-      → outOf ranges 0 (getD c (cnttTag c n j + 8) 0) ≡ true → ContentsRefused c outOfRange (cnttTag c n j + 8)
+      → outOf First 0 0 (getD c (cnttTag c n j + 8) 0) ≡ true → ContentsRefused c outOfRange (cnttTag c n j + 8)
   -- .. or, where that is in range, the table value
   cntt-value : (n j : ℕ) → CnttsBefore c n j → Headed c (cnttTag c n j) Cntt → word c (cnttTag c n j + 4) ≡ 2
-      → outOf ranges 0 (getD c (cnttTag c n j + 8) 0) ≡ false → cnttValue (getD c (cnttTag c n j + 9) 0) ≡ false → ContentsRefused c outOfRange (cnttTag c n j + 9)
+      → outOf First 0 0 (getD c (cnttTag c n j + 8) 0) ≡ false → cnttValue (getD c (cnttTag c n j + 9) 0) ≡ false → ContentsRefused c outOfRange (cnttTag c n j + 9)
   -- 10: "second .. Cntt of a channel", at the later tag
   cntt-again : (i n j : ℕ) → CnttsBefore c n j → CnttInRange c n j → i < j → cnttSource c n i ≡ cnttSource c n j → ContentsRefused c channelAgain (cnttTag c n j)
   -- 11: "Cntt without Ctab", at its tag

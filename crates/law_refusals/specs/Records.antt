@@ -7,8 +7,10 @@ use mathlib.Core.List.{List}
 use lib.ListN.{length, getD}
 use Rattle.layout.specs.declared.record.Record.{Record}
 use Rattle.layout.specs.Refusals.{overLimit, badText, outOfRange, channelAgain, noRoom, badNumber, rootFixed}
-use Rattle.layout.specs.Ranges.{firstEdition, ranges, outOf}
-use Rattle.layout.specs.Records.{blank, channelOf, badByte}
+use Rattle.layout.specs.declared.edition.Edition.the-variants.{First}
+use Rattle.layout.specs.Editions.{size, held}
+use Rattle.layout.specs.Ranges.{outOf}
+use Rattle.layout.specs.Records.{blank, channelOf, editionOf, badByte}
 use Rattle.layout.specs.Sdec.{soundText}
 use Rattle.layout.specs.Body.{bodyLimit}
 use Rattle.layout.specs.Salvage.{salvage}
@@ -20,11 +22,11 @@ use Rattle.law_refusals.specs.Contents.{FirstSuch}
 
 -- byte k is the first of a record in memory that is out of range; "a bad Cntt value counts as byte 21"
 abbrev pub FirstBadByte : Record → ℕ → Type 0
-FirstBadByte r k = FirstSuch (badByte firstEdition r) (firstEdition .held) k
+FirstBadByte r k = FirstSuch (badByte r) (held (editionOf r)) k
 
 -- every byte of a record in memory is in range, and its Cntt value
 abbrev pub InRange : Record → Type 0
-InRange r = (k : ℕ) → k < firstEdition .held → badByte firstEdition r k ≡ false
+InRange r = (k : ℕ) → k < held (editionOf r) → badByte r k ≡ false
 
 -- ---- placement
 
@@ -54,10 +56,10 @@ pub data WriteRefused (text : List ℕ) (table : List Record) (count room : ℕ)
   text-broken : count ≤ length table → TextBroken text → WriteRefused text table count room badText 0
   -- 9: "byte out of range, first one"; "in writing, place is 27 times the record's number (from 0) plus the byte"
   table-byte : (i k : ℕ) → i < count → count ≤ length table → soundText text ≡ true → RecordsBefore table i → FirstBadByte (getD table i blank) k
-      → WriteRefused text table count room outOfRange (firstEdition .size * i + k)
+      → WriteRefused text table count room outOfRange (size (editionOf (getD table i blank)) * i + k)
   -- 10: "second Ctab .. of a channel"; "10 points at the later record's byte 0"
   table-again : (j i : ℕ) → j < i → i < count → count ≤ length table → soundText text ≡ true → RecordsBefore table i → InRange (getD table i blank)
-      → channelOf (getD table j blank) ≡ channelOf (getD table i blank) → WriteRefused text table count room channelAgain (firstEdition .size * i)
+      → channelOf (getD table j blank) ≡ channelOf (getD table i blank) → WriteRefused text table count room channelAgain (size (editionOf (getD table i blank)) * i)
   -- 14: "lent room too small for the full answer", at 0
   buffer-short : count ≤ length table → soundText text ≡ true → RecordsBefore table count → room < length (groupBytes (groupFrom text table count)) → WriteRefused text table count room noRoom 0
 
@@ -65,9 +67,9 @@ pub data WriteRefused (text : List ℕ) (table : List Record) (count room : ℕ)
 
 pub data FieldRefused (index value : ℕ) : ℕ → ℕ → Type 0 where
   -- 16: "field index .. out of range", at 0
-  index-out : firstEdition .held ≤ index → FieldRefused index value badNumber 0
+  index-out : held First ≤ index → FieldRefused index value badNumber 0
   -- 9: "for the set value alone", at the byte
-  value-out : index < firstEdition .held → outOf ranges index value ≡ true → FieldRefused index value outOfRange index
+  value-out : index < held First → outOf First index 0 value ≡ true → FieldRefused index value outOfRange index
 
 -- ---- the salvage list, into a lent list of so many numbers, three an entry
 

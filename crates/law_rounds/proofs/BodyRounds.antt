@@ -30,19 +30,19 @@ use Rattle.law_rounds.proofs.GroupThere.{there-sound, there-size, there
 
 module _ (s : List ℕ) (n : ℕ) (b : Bytes s) (h : Accepted s n) where
   -- group number i by what its turn found
-  value-of : (i : ℕ) (l : i < n) → groupNo s i ≡ groupOf (payload (drop (groupPlace s i) s)) (h .each i l .text) (h .each i l .ctabs) (h .each i l .cntts)
+  value-of : (i : ℕ) (l : i < n) → groupNo s i ≡ groupOf (h .each i l .edition) (payload (drop (groupPlace s i) s)) (h .each i l .text) (h .each i l .ctabs) (h .each i l .cntts)
   unfolding groupNo groupValue
   value-of i l = ap (groupValue (drop (groupPlace s i) s)) (h .each i l .sound)
 
   pub allowed-of : (i : ℕ) → i < n → Allowed (groupNo s i)
-  allowed-of i l = rw (value-of i l) (group-allowed (drop (groupPlace s i) s) _ _ _ (h .each i l .sound))
+  allowed-of i l = rw (value-of i l) (group-allowed (drop (groupPlace s i) s) _ _ _ _ (h .each i l .sound))
 
   pub bytes-of : (i : ℕ) → i < n → drop (groupPlace s i) s ≡ groupBytes (groupNo s i) ++ drop (groupPlace s (suc i)) s
   unfolding groupPlace
   bytes-of i l =
       let at : ℕ = groupPlace s i in
       let own : groupBytes (groupNo s i) ≡ take (groupSize (drop at s)) (drop at s) =
-      ap groupBytes (value-of i l) ∙ group-back (drop at s) _ _ _ (h .each i l .sound) (bytes-drop s at b) in
+      ap groupBytes (value-of i l) ∙ group-back (drop at s) _ _ _ _ (h .each i l .sound) (bytes-drop s at b) in
       sym (take-append-drop (groupSize (drop at s)) (drop at s)) ∙ ap₂ (λ x y. x ++ y) (sym own) (drop-drop (groupSize (drop at s)) at s)
 
   text-of : (i : ℕ) → i < n → textAt s (groupPlace s i) ≡ groupNo s i .text
@@ -123,7 +123,7 @@ module _ (gs : List Group) (a : BodyAllowed gs) where
       let fits = there-fits s at g (later i) (stand .0 i l) (a .each i l) in
       let none : first (λ k. shares (textAt s (groupPlace s k)) (textAt s at)) 0 i ≡ i =
       first-none (λ k. shares (textAt s (groupPlace s k)) (textAt s at)) i (λ k u. rw (text-at k (omega arith), text-at i l) (a .apart k i u l)) in
-      turn-sound s i at (omega arith) 0 (sym (rw cseg-tag (there-head s at g (later i) (stand .0 i l) (a .each i l)))) refl (omega (arith, a .few)) _ _ _ false
+      turn-sound s i at (omega arith) 0 (sym (rw cseg-tag (there-head s at g (later i) (stand .0 i l) (a .each i l)))) refl (omega (arith, a .few)) _ _ _ _ false
       (there-sound s at g (later i) (stand .0 i l) (a .each i l)) (rw none (le-ltb i i (omega arith)))
 
   pub body-run : bodyRun (flatMap groupBytes gs) ≡ Ended (length gs)

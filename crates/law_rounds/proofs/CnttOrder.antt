@@ -8,7 +8,7 @@ use native.Mathlib.Decide.{decLt}
 use lib.Dec.{ltb, leb, eqb}
 use borrow.Author.Tests.{lt-ltb, le-ltb, lt-leb, ltb-false, leb-false, ne-eqb}
 use Rattle.layout.specs.Scan.{first}
-use Rattle.layout.specs.Ranges.{firstEdition}
+use Rattle.layout.specs.declared.edition.Edition.the-variants.{First}
 use Rattle.layout.specs.Group.{ctabChannel, ctabOf, cnttChannel, cnttOf, outOfOrder, cnttFault}
 use Rattle.layout.proofs.Scans.{first-none}
 use Rattle.layout.proofs.Pigeonhole.{Apart}
@@ -17,7 +17,7 @@ use Rattle.law_rounds.proofs.Follows.{Follows, no-two, ctab-of}
 
 -- the Ctab of a channel, by its number
 abbrev tabOf : List ℕ → ℕ → ℕ → ℕ → ℕ
-tabOf c p n channel = ctabOf firstEdition c p n channel
+tabOf c p n channel = ctabOf First c p n channel
 
 -- no Cntt before has the channel, a Ctab has it, and that stands no earlier than the one of the Cntt before
 pub record Ordered (c : List ℕ) (p n q j channel : ℕ) : Type 0 where
@@ -55,19 +55,19 @@ module _ (c : List ℕ) (p n q j channel : ℕ) where
 
 -- ---- the Cntts that were read follow their Ctabs
 
-module _ (c : List ℕ) (p n q m : ℕ) (a : Apart (ctabChannel firstEdition c p) n) (h : (j : ℕ) → j < m → Ordered c p n q j (cnttChannel c q j)) where
+module _ (c : List ℕ) (p n q m : ℕ) (a : Apart (ctabChannel First c p) n) (h : (j : ℕ) → j < m → Ordered c p n q j (cnttChannel c q j)) where
   abbrev pub homeRead : ℕ → ℕ
   homeRead j = tabOf c p n (cnttChannel c q j)
 
-  named : (j : ℕ) → j < m → ctabChannel firstEdition c p (homeRead j) ≡ cnttChannel c q j
-  named j l = ctab-seen c p n (cnttChannel c q j) (h j l .has)
+  named : (j : ℕ) → j < m → ctabChannel First c p (homeRead j) ≡ cnttChannel c q j
+  named j l = ctab-seen First c p n (cnttChannel c q j) (h j l .has)
 
   next : (j : ℕ) → suc j < m → homeRead j < homeRead (suc j)
   next j l =
       let o = h (suc j) l in
       let z : suc j - 1 ≡ j = omega arith in
       let k : homeRead j ≤ homeRead (suc j) = rw z at (o .after (omega arith)) in
-      let d : homeRead j ≡ homeRead (suc j) → ⊥ = λ e. o .new j (omega arith) (sym (named j (omega arith)) ∙ ap (ctabChannel firstEdition c p) e ∙ named (suc j) l) in
+      let d : homeRead j ≡ homeRead (suc j) → ⊥ = λ e. o .new j (omega arith) (sym (named j (omega arith)) ∙ ap (ctabChannel First c p) e ∙ named (suc j) l) in
       omega arith
 
   rising : (i j : ℕ) → i < j → j < m → homeRead i < homeRead j
@@ -78,18 +78,18 @@ module _ (c : List ℕ) (p n q m : ℕ) (a : Apart (ctabChannel firstEdition c p
       go (yes d) ih = omega (arith, ih d (omega arith), next j l)
       go (no d) ih = let z : i ≡ j = omega arith in rw z (next j l)
 
-  pub follows-read : Follows n m (ctabChannel firstEdition c p) (cnttChannel c q) homeRead
+  pub follows-read : Follows n m (ctabChannel First c p) (cnttChannel c q) homeRead
   follows-read = record { apart = a; within = λ j l. h j l .has; named = named; rising = rising }
 
 -- ---- and those that follow are in order
 
-pub follows-ordered : (c : List ℕ) (p n q m : ℕ) (home : ℕ → ℕ) → Follows n m (ctabChannel firstEdition c p) (cnttChannel c q) home
+pub follows-ordered : (c : List ℕ) (p n q m : ℕ) (home : ℕ → ℕ) → Follows n m (ctabChannel First c p) (cnttChannel c q) home
     → (j : ℕ) → j < m → Ordered c p n q j (cnttChannel c q j)
 unfolding ctabOf
 follows-ordered c p n q m home f j l =
-    let own : (j : ℕ) → j < m → tabOf c p n (cnttChannel c q j) ≡ home j = ctab-of n m (ctabChannel firstEdition c p) (cnttChannel c q) home f in
+    let own : (j : ℕ) → j < m → tabOf c p n (cnttChannel c q j) ≡ home j = ctab-of n m (ctabChannel First c p) (cnttChannel c q) home f in
     record {
-      new = λ i k e. no-two n m (ctabChannel firstEdition c p) (cnttChannel c q) home f i j k l e;
+      new = λ i k e. no-two n m (ctabChannel First c p) (cnttChannel c q) home f i j k l e;
       has = omega (arith, own j l, f .within j l);
       after = λ k. omega (arith, own j l, own (j - 1) (omega arith), f .rising (j - 1) j (omega arith) l);
     }

@@ -1,6 +1,6 @@
 -- What stands in sound contents is given back by writing its records: Ctab by Ctab, then the Cntts, which follow the order of their Ctabs.
 use Prim.Native.Nat.{ℕ, suc, _+_, _*_, _<_}
-use mathlib.Core.Path.{_≡_, refl, sym, ap, _∙_}
+use mathlib.Core.Path.{_≡_, refl, sym, ap, ap₂, _∙_}
 use mathlib.Core.Bool.{Bool, true, false, cond}
 use mathlib.Core.List.{List, _++_, append-nil, flatMap}
 use native.Mathlib.Omega.{arith}
@@ -10,7 +10,8 @@ use lib.Seq.{drop-length, take-all}
 use borrow.Author.Tests.{ltb-true}
 use Rattle.layout.specs.Lists.{rows}
 use Rattle.layout.specs.Bytes.{word, Sdec, chunk}
-use Rattle.layout.specs.Ranges.{firstEdition, ranges, outOf}
+use Rattle.layout.specs.declared.edition.Edition.the-variants.{First}
+use Rattle.layout.specs.Ranges.{outAt}
 use Rattle.layout.specs.declared.record.Record.{Record}
 use Rattle.layout.specs.declared.record.SecondTable.the-variants.{Absent, Value}
 use Rattle.layout.specs.Records.{bytesOf, recordOf, blank, channelOf, badSecond, firstBad}
@@ -24,6 +25,7 @@ use Rattle.layout.proofs.Lists.{rows-length, getD-rows}
 use Rattle.layout.proofs.Sixteen.{channels-apart}
 use Rattle.layout.proofs.RecordBytes.{record-channel}
 use Rattle.layout.proofs.BytesBack.{read-bytes}
+use Rattle.layout.proofs.Outs.{out-alike}
 use Rattle.law_rounds.specs.Rounds.{Bytes}
 use Rattle.law_rounds.proofs.RecordBack.{read-whole}
 use Rattle.law_rounds.proofs.Runs.{run-ran}
@@ -47,31 +49,31 @@ module _ (c : List ℕ) (t n m : ℕ) where
 
   -- record number i
   abbrev row : ℕ → Record
-  row i = recordAt c (8 + t) (8 + t + 35 * n) m i
+  row i = recordAt First c (8 + t) (8 + t + 35 * n) m i
 
   -- the value of Cntt number j
   abbrev valueAt : ℕ → ℕ
   valueAt j = getD c (8 + t + 35 * n + 10 * j + 9) 0
 
-  channels : (i : ℕ) → channelOf (row i) ≡ ctabChannel firstEdition c (8 + t) i
+  channels : (i : ℕ) → channelOf (row i) ≡ ctabChannel First c (8 + t) i
   unfolding channelOf
-  channels i = record-channel c p q m i
+  channels i = record-channel First c p q m i
 
-  seconds : (i : ℕ) → row i .second ≡ valueOn (cnttChannel c q) valueAt m (ctabChannel firstEdition c p i)
+  seconds : (i : ℕ) → row i .second ≡ valueOn (cnttChannel c q) valueAt m (ctabChannel First c p i)
   unfolding recordAt recordOf secondOf cnttOf
   seconds i = refl
 
-  module _ (h : Contents c t n m) where
-    ctab : (i : ℕ) → i < n → CtabMore c p i (8 + t + 35 * i)
+  module _ (h : Contents c First t n m) where
+    ctab : (i : ℕ) → i < n → CtabMore First c p i (8 + t + 35 * i)
     unfolding ctabsOf
-    ctab i l = turn-more c p i (run-ran (ctabTurn firstEdition c p) (length c + 1) n (h .ctabs) .goes i l)
+    ctab i l = turn-more First c p i (run-ran (ctabTurn First c p) (length c + 1) n (h .ctabs) .goes i l)
 
     cntt : (j : ℕ) → j < m → CnttMore c p n q j (8 + t + 35 * n + 10 * j)
     unfolding cnttsOf
     cntt j l = cntt-turn-more c p n q j (run-ran (cnttTurn c p n q) (length c + 1) m (h .cntts) .goes j l)
 
-    apart : Apart (ctabChannel firstEdition c p) n
-    apart = channels-apart c p n (h .ctabs) .apart
+    apart : Apart (ctabChannel First c p) n
+    apart = channels-apart First c p n (h .ctabs) .apart
 
     ordered : (j : ℕ) → j < m → Ordered c p n q j (cnttChannel c q j)
     unfolding cnttChannel
@@ -81,7 +83,7 @@ module _ (c : List ℕ) (t n m : ℕ) where
     unfolding recordAt
     held i l =
         let z = held-size c p i (8 + t + 35 * i) (ctab i l) in
-        read-bytes (take 26 (drop (8 + t + 35 * i + 8) c)) (secondOf c q m (ctabChannel firstEdition c p i)) (omega arith)
+        read-bytes (take 26 (drop (8 + t + 35 * i + 8) c)) (secondOf c q m (ctabChannel First c p i)) (omega arith)
         ∙ take-all 26 (take 26 (drop (8 + t + 35 * i + 8) c)) (omega arith)
 
     -- ---- the bytes
@@ -101,9 +103,9 @@ module _ (c : List ℕ) (t n m : ℕ) where
         ∙ ap (λ x. pairBytes (cnttChannel c q j, valueAt j) ++ x) (moved c (8 + t + 35 * n + 10 * j + 10) (8 + t + 35 * n + 10 * suc j) (omega arith)))
         ∙ ap (λ x. flatMap pairBytes (rows (λ j. (cnttChannel c q j, valueAt j)) 0 m) ++ x) (moved c (8 + t + 35 * n + 10 * m) (length c) (h .cover) ∙ drop-length c)
         ∙ append-nil _
-        ∙ sym (cntts-written n m (ctabChannel firstEdition c p) (cnttChannel c q) (homeRead c p n q m apart ordered) valueAt (follows-read c p n q m apart ordered) row channels seconds)
+        ∙ sym (cntts-written n m (ctabChannel First c p) (cnttChannel c q) (homeRead c p n q m apart ordered) valueAt (follows-read c p n q m apart ordered) row channels seconds)
 
-    pub contents-back : Bytes c → payloadBytes (groupOf c t n m) ≡ c
+    pub contents-back : Bytes c → payloadBytes (groupOf First c t n m) ≡ c
     unfolding payloadBytes groupOf
     contents-back b =
         let s = head-sound c 0 Sdec (h .tagged) in
@@ -123,16 +125,18 @@ module _ (c : List ℕ) (t n m : ℕ) where
 
     row-second : (i : ℕ) → badSecond (row i .second) ≡ false
     unfolding recordAt recordOf
-    row-second i = second-ok (ctabChannel firstEdition c p i)
+    row-second i = second-ok (ctabChannel First c p i)
 
-    row-ok : (i : ℕ) → i < n → firstBad firstEdition (row i) ≡ 26
+    row-ok : (i : ℕ) → i < n → firstBad (row i) ≡ 26
     row-ok i l = none-bad (row i) ranged (row-second i)
       where
-        ranged : (k : ℕ) → k < 26 → outOf ranges k (getD (bytesOf (row i)) k 0) ≡ false
-        ranged k u =
-            rw (held i l, held-byte c p i (8 + t + 35 * i) (ctab i l) k u) (read-ranged c p i (8 + t + 35 * i) (ctab i l) k (omega arith))
+        same-byte : (k : ℕ) → k < 26 → getD (bytesOf (row i)) (0 + k) 0 ≡ getD c (8 + t + 35 * i + 8 + k) 0
+        same-byte k u = ap₂ (λ b j. getD b j 0) (held i l) (omega arith) ∙ held-byte c p i (8 + t + 35 * i) (ctab i l) k u
 
-    pub contents-allowed : Allowed (groupOf c t n m)
+        ranged : (k : ℕ) → k < 26 → outAt First (bytesOf (row i)) 0 k ≡ false
+        ranged k u = out-alike First (bytesOf (row i)) c 0 (8 + t + 35 * i + 8) 26 same-byte k u ∙ read-ranged c p i (8 + t + 35 * i) (ctab i l) k (omega arith)
+
+    pub contents-allowed : Allowed (groupOf First c t n m)
     unfolding groupOf recordAt
     contents-allowed =
         let below : (i : ℕ) → i < length (rows row 0 n) → i < n = λ i u. rw rows-length at u in

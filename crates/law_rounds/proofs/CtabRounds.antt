@@ -14,7 +14,8 @@ use Rattle.layout.specs.Lists.{same}
 use Rattle.layout.specs.Scan.{first}
 use Rattle.layout.specs.Bytes.{tagAt, tagged, Ctab, chunk}
 use Rattle.layout.specs.declared.turn.Turn.the-variants.{More}
-use Rattle.layout.specs.Ranges.{firstEdition, ranges, outOf, firstOut}
+use Rattle.layout.specs.declared.edition.Edition.the-variants.{First}
+use Rattle.layout.specs.Ranges.{outAt, firstOut}
 use Rattle.layout.specs.declared.record.Record.{Record}
 use Rattle.layout.specs.Records.{bytesOf, channelOf, fileBytes}
 use Rattle.layout.specs.Group.{ctabsOver, ctabChannel, ctabOf, ctabAt}
@@ -24,6 +25,7 @@ use Rattle.layout.proofs.Heads.{head-sound}
 use Rattle.layout.proofs.Same.{same-is}
 use Rattle.layout.proofs.Records.{bytes-length, Ranged}
 use Rattle.layout.proofs.Ctabs.{CtabMore, ctab-fits}
+use Rattle.layout.proofs.Outs.{out-alike}
 use Rattle.law_rounds.specs.Rounds.{Bytes}
 use Rattle.law_rounds.proofs.Blocks.{moved}
 use Rattle.law_rounds.proofs.Chunks.{chunk-read, length-chunk, written-length, written-rest, written-byte, written-head}
@@ -39,29 +41,29 @@ length-ctab r = length-chunk Ctab (fileBytes r) refl ∙ rw (length-file r)
 
 -- ---- read
 
-module _ (c : List ℕ) (p n at : ℕ) (h : CtabMore c p n at) where
+module _ (c : List ℕ) (p n at : ℕ) (h : CtabMore First c p n at) where
   -- byte k of the 27 is in its range
-  pub read-ranged : (k : ℕ) → k < 27 → outOf ranges k (getD c (at + 8 + k) 0) ≡ false
+  pub read-ranged : (k : ℕ) → k < 27 → outAt First c (at + 8) k ≡ false
   unfolding firstOut
   read-ranged k l =
-      let w : 27 ≤ first (λ k. outOf ranges k (getD c (at + 8 + k) 0)) 0 27 = h .inside in
-      first-passed (λ k. outOf ranges k (getD c (at + 8 + k) 0)) 27 k (omega arith)
+      let w : 27 ≤ first (outAt First c (at + 8)) 0 27 = h .inside in
+      first-passed (outAt First c (at + 8)) 27 k (omega arith)
 
   pub held-byte : (k : ℕ) → k < 26 → getD (take 26 (drop (at + 8) c)) k 0 ≡ getD c (at + 8 + k) 0
   held-byte k l = getD-take 26 (drop (at + 8) c) k 0 l ∙ getD-drop (at + 8) c k 0
 
   pub held-size : length (take 26 (drop (at + 8) c)) ≡ 26
-  held-size = length-take-le 26 (drop (at + 8) c) (rw length-drop (omega (arith, ctab-fits c p n at h)))
+  held-size = length-take-le 26 (drop (at + 8) c) (rw length-drop (omega (arith, ctab-fits First c p n at h)))
 
   pub ctab-read : (r : Record) → Bytes c → bytesOf r ≡ take 26 (drop (at + 8) c) → drop at c ≡ ctabBytes r ++ drop (at + 35) c
-  unfolding ctabBytes fileBytes
+  unfolding ctabBytes fileBytes outAt
   ctab-read r b e =
-      let fits = ctab-fits c p n at h in
-      chunk-read c at Ctab 27 b (head-sound c at Ctab (h .head) .0) (h .size) (omega arith)
+      let fits : at + 35 ≤ length c = omega (arith, ctab-fits First c p n at h) in
+      chunk-read c at Ctab 27 b (head-sound c at Ctab (h .head) .0) (h .length) (omega arith)
       ∙ ap₂ (λ x y. chunk Ctab x ++ y) (all fits ∙ ap (λ x. x ++ (0 ∷ [])) (sym e)) (moved c (at + 8 + 27) (at + 35) (omega arith))
     where
       last : getD (drop (at + 8) c) 26 0 ≡ 0
-      last = getD-drop (at + 8) c 26 0 ∙ last-zero _ (read-ranged 26 (omega arith))
+      last = getD-drop (at + 8) c 26 0 ∙ last-zero _ _ (read-ranged 26 (omega arith))
 
       all : at + 35 ≤ length c → take 27 (drop (at + 8) c) ≡ take 26 (drop (at + 8) c) ++ (0 ∷ [])
       all fits = take-suc (drop (at + 8) c) 26 0 (rw length-drop (omega arith)) ∙ ap (λ x. take 26 (drop (at + 8) c) ++ (x ∷ [])) last
@@ -75,14 +77,14 @@ not-over c at h t =
     let z : tagAt c at ≡ Ctab = same-is (tagAt c at) Ctab t in
     rw (ne-eqb at (length c) (omega arith), le-leb (at + 8) (length c) (omega arith), z)
 
-pub ctab-goes : (c : List ℕ) (p n at : ℕ) → CtabMore c p n at → ctabAt firstEdition c p n at ≡ More
+pub ctab-goes : (c : List ℕ) (p n at : ℕ) → CtabMore First c p n at → ctabAt First c p n at ≡ More
 unfolding ctabAt
 ctab-goes c p n at h =
     rw (
-      not-over c at (ctab-fits c p n at h) (head-sound c at Ctab (h .head) .0),
+      not-over c at (omega (arith, ctab-fits First c p n at h)) (head-sound c at Ctab (h .head) .0),
       h .head,
-      h .size,
-      le-ltb (firstOut ranges c (at + 8) 27) 27 (h .inside),
+      h .length,
+      le-ltb (firstOut First c (at + 8) 27) 27 (h .inside),
       h .fresh,
     )
 
@@ -111,23 +113,27 @@ module _ (c : List ℕ) (at : ℕ) (r : Record) (x : List ℕ) (e : drop at c �
   held-at =
       ap (take 26) (written-rest c at Ctab (fileBytes r) x refl chunked ∙ append-assoc (bytesOf r) (0 ∷ []) x) ∙ take-at (bytesOf r) _ 26 (bytes-length r)
 
-  in-its-range : Ranged r → (k : ℕ) → k < 27 → outOf ranges k (getD c (at + 8 + k) 0) ≡ false
+  in-its-range : Ranged r → (k : ℕ) → k < 27 → outAt First c (at + 8) k ≡ false
+  unfolding outAt
   in-its-range ok k l = go (decLt k 26)
     where
-      go : Dec (k < 26) → outOf ranges k (getD c (at + 8 + k) 0) ≡ false
-      go (yes m) = rw (byte-of k m) (ok k m)
-      go (no m) = let z : k ≡ 26 = omega arith in rw z (rw byte-26 zero-last)
+      same-byte : (i : ℕ) → i < 26 → getD c (at + 8 + i) 0 ≡ getD (bytesOf r) (0 + i) 0
+      same-byte i m = byte-of i m ∙ ap (λ k. getD (bytesOf r) k 0) (omega arith)
 
-  pub ctab-written : Ranged r → (p n : ℕ) → ((i : ℕ) → i < n → ctabChannel firstEdition c p i ≡ channelOf r → ⊥) → CtabMore c p n at
+      go : Dec (k < 26) → outAt First c (at + 8) k ≡ false
+      go (yes m) = out-alike First c (bytesOf r) (at + 8) 0 26 same-byte k m ∙ ok k m
+      go (no m) = let z : k ≡ 26 = omega arith in rw z (rw byte-26 (zero-last _))
+
+  pub ctab-written : Ranged r → (p n : ℕ) → ((i : ℕ) → i < n → ctabChannel First c p i ≡ channelOf r → ⊥) → CtabMore First c p n at
   unfolding firstOut ctabOf
   ctab-written ok p n f =
       let long = length-file r in
-      let none : first (λ k. outOf ranges k (getD c (at + 8 + k) 0)) 0 27 ≡ 27 = first-none (λ k. outOf ranges k (getD c (at + 8 + k) 0)) 27 (in-its-range ok) in
-      let fresh : first (λ i. eqb (ctabChannel firstEdition c p i) (getD c (at + 8) 0)) 0 n ≡ n =
-      first-none (λ i. eqb (ctabChannel firstEdition c p i) (getD c (at + 8) 0)) n (λ i l. ne-eqb _ _ (λ q. f i l (q ∙ channel-at))) in
+      let none : first (outAt First c (at + 8)) 0 27 ≡ 27 = first-none (outAt First c (at + 8)) 27 (in-its-range ok) in
+      let fresh : first (λ i. eqb (ctabChannel First c p i) (getD c (at + 8) 0)) 0 n ≡ n =
+      first-none (λ i. eqb (ctabChannel First c p i) (getD c (at + 8) 0)) n (λ i l. ne-eqb _ _ (λ q. f i l (q ∙ channel-at))) in
       record {
         head = written-head c at Ctab (fileBytes r) x refl chunked (omega arith);
-        size = written-length c at Ctab (fileBytes r) x refl chunked (omega arith) ∙ long;
+        length = written-length c at Ctab (fileBytes r) x refl chunked (omega arith) ∙ long;
         inside = omega arith;
         fresh = rw fresh (le-ltb n n (omega arith));
       }

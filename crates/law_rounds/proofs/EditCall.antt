@@ -5,6 +5,8 @@ use mathlib.Core.List.{List, _++_}
 use native.Mathlib.Omega.{arith}
 use lib.ListN.{length, take, drop}
 use borrow.Author.Tests.{lt-leb}
+use Rattle.layout.specs.declared.edition.Edition.the-variants.{First}
+use Rattle.layout.specs.Group.{ctabPlace}
 use Rattle.layout.specs.declared.record.Record.{Record}
 use Rattle.layout.specs.declared.answer.Answered.{Answered}
 use Rattle.layout.specs.Records.{fileBytes}
@@ -39,7 +41,8 @@ module _ (s : List ℕ) (g channel : ℕ) (new : Record) (b : Bytes s) (w : Whol
   within =
       let p = edit-placed s (q .n) g b (body-accepted s (q .n) (q .accepted)) (q .there) channel (q .its) in
       let e = group-edited (groupNo s g) (p .allowed) (rowIn s (standing s g) channel) (p .its) new w (edit-ranged new (q .ranged)) (q .own ∙ sym (p .channelled)) in
-      omega (arith, p .ctabs, p .ends, e .room, length-file new)
+      let at : row .at ≡ ctabPlace First (standing s g .ctabs) (rowIn s (standing s g) channel) + 8 = ap (λ x. ctabPlace x (standing s g .ctabs) (rowIn s (standing s g) channel) + 8) (p .edition) in
+      omega (arith, at, p .ctabs, p .ends, e .room, length-file new)
 
   ctab-changed : CtabChanged s g channel new after
   unfolding replaced

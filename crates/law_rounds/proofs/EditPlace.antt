@@ -1,14 +1,14 @@
 -- The group and the record that an edit speaks of, where they stand in an accepted body.
 use Prim.Native.Nat.{ℕ, suc, _+_, _*_, _≤_, _<_}
-use mathlib.Core.Path.{_≡_, sym, ap, _∙_}
+use mathlib.Core.Path.{_≡_, sym, ap, ap₂, _∙_}
 use mathlib.Core.List.{List, _++_, flatMap}
 use native.Mathlib.Omega.{arith}
 use lib.Dec.{eqb}
 use lib.ListN.{length, getD, take, drop}
 use borrow.Author.Tests.{eqb-true}
-use Rattle.layout.specs.Ranges.{firstEdition}
+use Rattle.layout.specs.declared.edition.Edition.the-variants.{First}
 use Rattle.layout.specs.Records.{blank, channelOf}
-use Rattle.layout.specs.Group.{ctabChannel, ctabOf, Group}
+use Rattle.layout.specs.Group.{ctabPlace, ctabChannel, ctabOf, Group}
 use Rattle.layout.specs.Body.{groupPlace, noGroup, groupNo}
 use Rattle.layout.specs.Asked.{standingAt, standing, rowIn}
 use Rattle.layout.specs.Write.{groupBytes, Allowed}
@@ -26,6 +26,7 @@ pub record EditPlaced (s : List ℕ) (n g channel : ℕ) : Type 0 where
   pub listed : getD (groupsOf s n) g noGroup ≡ groupNo s g
   pub place : groupPlace s g ≡ length (flatMap groupBytes (take g (groupsOf s n)))
   pub ends : groupPlace s g + length (groupBytes (groupNo s g)) ≤ length s
+  pub edition : standing s g .edition ≡ First
   pub ctabs : standing s g .ctabs ≡ groupPlace s g + 16 + length (groupNo s g .text)
   pub its : rowIn s (standing s g) channel < length (groupNo s g .records)
   pub channelled : channelOf (getD (groupNo s g .records) (rowIn s (standing s g) channel) blank) ≡ channel
@@ -42,6 +43,10 @@ module _ (s : List ℕ) (n g : ℕ) (b : Bytes s) (h : Accepted s n) (l : g < n)
 
   own-there : drop at s ≡ groupBytes own ++ drop (groupPlace s (suc g)) s
   own-there = bytes-of s n b h g l
+
+  edition-is : standing s g .edition ≡ First
+  unfolding standing standingAt
+  edition-is = ap (λ j. standingAt s at j .edition) (there-sound s at own _ own-there own-allowed)
 
   ctabs-is : standing s g .ctabs ≡ at + 16 + length (own .text)
   unfolding standing standingAt
@@ -71,9 +76,9 @@ module _ (s : List ℕ) (n g : ℕ) (b : Bytes s) (h : Accepted s n) (l : g < n)
     row-channel : channelOf (getD (own .records) row blank) ≡ channel
     unfolding rowIn ctabOf ctabChannel
     row-channel =
-        let here : getD s (standing s g .ctabs + 35 * row + 8) 0 ≡ channel =
-        eqb-true _ _ (first-stands (λ i. eqb (ctabChannel firstEdition s (standing s g .ctabs) i) channel) (standing s g .records) has) in
-        sym (there-channel s at own _ own-there own-allowed row row-there) ∙ ap (λ x. getD s (x + 35 * row + 8) 0) (sym ctabs-is) ∙ here
+        let here : getD s (ctabPlace (standing s g .edition) (standing s g .ctabs) row + 8) 0 ≡ channel =
+        eqb-true _ _ (first-stands (λ i. eqb (ctabChannel (standing s g .edition) s (standing s g .ctabs) i) channel) (standing s g .records) has) in
+        sym (there-channel s at own _ own-there own-allowed row row-there) ∙ ap₂ (λ x e. getD s (ctabPlace e x row + 8) 0) (sym ctabs-is) (sym edition-is) ∙ here
 
     pub edit-placed : EditPlaced s n g channel
     edit-placed =
@@ -82,6 +87,7 @@ module _ (s : List ℕ) (n g : ℕ) (b : Bytes s) (h : Accepted s n) (l : g < n)
           listed = getD-rows (groupNo s) noGroup n g l;
           place = place-is;
           ends = there-ends s at own _ own-there own-allowed;
+          edition = edition-is;
           ctabs = ctabs-is;
           its = row-there;
           channelled = row-channel;

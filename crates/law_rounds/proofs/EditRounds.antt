@@ -8,7 +8,7 @@ use Rattle.layout.specs.declared.turn.Run.the-variants.{Ended}
 use Rattle.layout.specs.declared.record.Record.{Record}
 use Rattle.layout.specs.Records.{channelOf, fileBytes}
 use Rattle.layout.specs.Answers.{granted}
-use Rattle.layout.specs.Group.{Group}
+use Rattle.layout.specs.Group.{ctabPlace, Group}
 use Rattle.layout.specs.Body.{groupPlace, bodyRun, noGroup, groupNo}
 use Rattle.layout.specs.Asked.{standing, rowIn}
 use Rattle.layout.specs.Write.{groupBytes, Whole, Allowed}
@@ -57,8 +57,8 @@ module _ (s : List ℕ) (n g channel : ℕ) (b : Bytes s) (h : Accepted s n) (l 
   group : Edited (groupNo s g) row new
   group = group-edited (groupNo s g) (p .allowed) row (p .its) new w r (same ∙ sym (p .channelled))
 
-  inner-is : standing s g .ctabs + 35 * row + 8 ≡ groupPlace s g + inner
-  inner-is = omega (arith, p .ctabs)
+  inner-is : ctabPlace (standing s g .edition) (standing s g .ctabs) row + 8 ≡ groupPlace s g + inner
+  inner-is = rw (p .edition) (omega (arith, p .ctabs))
 
   bytes-after : replaced s (groupPlace s g + inner) (fileBytes new) ≡ flatMap groupBytes (set (groupsOf s n) g put)
   bytes-after =

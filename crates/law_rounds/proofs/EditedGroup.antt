@@ -6,7 +6,7 @@ use native.Mathlib.Omega.{arith}
 use lib.ListN.{length, getD, take, set, length-append, length-set}
 use lib.Seq.{length-take-le}
 use Rattle.layout.specs.Bytes.{CSEG, Sdec, Ctab, chunk}
-use Rattle.layout.specs.Ranges.{firstEdition}
+use Rattle.layout.specs.declared.edition.Edition.the-variants.{First}
 use Rattle.layout.specs.declared.record.Record.{Record}
 use Rattle.layout.specs.Records.{bytesOf, blank, channelOf, firstBad, fileBytes}
 use Rattle.layout.specs.Group.{Group}
@@ -49,7 +49,7 @@ module _ (g : Group) (a : Allowed g) (i : ℕ) (l : i < length (g .records)) (ne
 
   -- ---- it is allowed
 
-  put-good : firstBad firstEdition put ≡ 26
+  put-good : firstBad put ≡ 26
   put-good = none-bad put (λ k u. rw put-bytes (r k u)) (second-good old (omega (arith, a .ranges i l)))
 
   edited-allowed : Allowed (withRecord g i new)
@@ -58,7 +58,7 @@ module _ (g : Group) (a : Allowed g) (i : ℕ) (l : i < length (g .records)) (ne
       record {
         text = a .text;
         whole = set-each Whole (g .records) i put blank (record { voice = w .voice; roots = w .roots; chords = w .chords }) (a .whole);
-        ranges = set-each (λ x. firstBad firstEdition x ≡ 26) (g .records) i put blank put-good (a .ranges);
+        ranges = set-each (λ x. firstBad x ≡ 26) (g .records) i put blank put-good (a .ranges);
         apart = λ j k u v x. let z : k < length (g .records) = rw (length-set (g .records) i put) at v in
             a .apart j k u z (sym (same j (omega arith)) ∙ x ∙ same k z);
       }

@@ -7,7 +7,8 @@ use borrow.Author.Tests.{leb-false}
 use Rattle.layout.specs.declared.record.Record.{Record}
 use Rattle.layout.specs.declared.answer.Answered.{Answered}
 use Rattle.layout.specs.declared.answer.Changed.{Changed}
-use Rattle.layout.specs.Ranges.{ranges, outOf}
+use Rattle.layout.specs.declared.edition.Edition.the-variants.{First}
+use Rattle.layout.specs.Ranges.{outOf, ruleAt}
 use Rattle.layout.specs.Records.{bytesOf, recordOf}
 use Rattle.layout.specs.Answers.{Answer, refused, granted, numberOf, valueOr, answered}
 use Rattle.layout.specs.Screen.{fieldSet, changed}
@@ -22,7 +23,7 @@ unfolding fieldSet
 field-changed r after index value e =
     let new : Record = recordOf (set (bytesOf r) index value) (r .second) in
     let a = if-granted (leb 26 index) 16 0 _ after e in
-    let b = if-granted (outOf ranges index value) 9 index (granted new) after (a .1) in
+    let b = if-granted (outOf First index (ruleAt (bytesOf r) 0 index) value) 9 index (granted new) after (a .1) in
     let is : new ≡ after = granted-once new after (b .1) in
     let alone = set-alone r after index value e in
     record { within = leb-false 26 index (a .0); bytes = alone .0; second = alone .1; whole = rw (← is) (read-whole (set (bytesOf r) index value) (r .second)) }

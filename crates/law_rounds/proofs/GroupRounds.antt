@@ -1,12 +1,13 @@
 -- The two round trips of a group: what is sound is given back byte for byte and is allowed; what is allowed and written is read, whatever stands behind it.
 use Prim.Native.Nat.{ℕ, _+_, _-_, _≤_}
-use mathlib.Core.Path.{_≡_, refl, sym, ap, ap₂, _∙_}
+use mathlib.Core.Path.{_≡_, refl, sym, ap, ap₂, subst, _∙_}
 use mathlib.Core.List.{List, _++_, flatMap}
 use native.Mathlib.Omega.{arith}
 use lib.ListN.{length, take, drop}
 use lib.Seq.{drop-drop, take-at, drop-at}
+use Rattle.layout.specs.declared.edition.Edition.{Edition}
 use Rattle.layout.specs.Bytes.{word, CSEG, Sdec, chunk}
-use Rattle.layout.specs.Ranges.{inside}
+use Rattle.layout.specs.declared.edition.Edition.the-variants.{First}
 use Rattle.layout.specs.declared.turn.Judged.the-variants.{Sound}
 use Rattle.layout.specs.Group.{contents, payload, groupSize, groupAt, Group, groupOf}
 use Rattle.layout.specs.Write.{ctabBytes, payloadBytes, groupBytes, Allowed}
@@ -14,7 +15,7 @@ use Rattle.layout.proofs.Texts.{text-most}
 use Rattle.layout.proofs.Heads.{head-sound}
 use Rattle.layout.proofs.Groups.{sdec-tag, cseg-tag, contents-sound, group-sound}
 use Rattle.layout.proofs.GroupPlaces.{payload-length}
-use Rattle.layout.proofs.GroupSound.{contents-sound-is, group-sound-is}
+use Rattle.layout.proofs.GroupSound.{Contents, contents-sound-is, group-sound-is}
 use Rattle.law_rounds.specs.Rounds.{Bytes, GroupRead}
 use Rattle.law_rounds.proofs.Chunks.{bytes-part, chunk-read, length-chunk, written-length, written-rest, written-fits, written-head}
 use Rattle.law_rounds.proofs.Follows.{ownCntt}
@@ -25,17 +26,25 @@ use Rattle.law_rounds.proofs.RecordsWritten.{ctabs-run, cntts-run, reco
 
 -- ---- read
 
-module _ (p : List ℕ) (t n m : ℕ) (e : groupAt p ≡ Sound t n m) where
-  pub group-allowed : Allowed (groupOf (payload p) t n m)
-  group-allowed = contents-allowed (payload p) t n m (contents-sound-is (payload p) t n m (group-sound-is p t n m e .inside))
+module _ (p : List ℕ) (ed : Edition) (t n m : ℕ) (e : groupAt p ≡ Sound ed t n m) where
+  -- the edition that is read
+  same : First ≡ ed
+  same = group-sound-is p ed t n m e .edition
 
-  pub group-back : Bytes p → groupBytes (groupOf (payload p) t n m) ≡ take (groupSize p) p
+  inside : Contents (payload p) First t n m
+  inside = subst (λ (x : Edition). Contents (payload p) x t n m) (sym same) (contents-sound-is (payload p) ed t n m (group-sound-is p ed t n m e .inside))
+
+  pub group-allowed : Allowed (groupOf ed (payload p) t n m)
+  group-allowed = subst (λ (x : Edition). Allowed (groupOf x (payload p) t n m)) same (contents-allowed (payload p) t n m inside)
+
+  pub group-back : Bytes p → groupBytes (groupOf ed (payload p) t n m) ≡ take (groupSize p) p
   unfolding groupBytes payload groupSize
   group-back b =
-      let g = group-sound-is p t n m e in
+      let g = group-sound-is p ed t n m e in
       let h = head-sound p 0 CSEG (g .head) in
       let long = payload-length p (omega (arith, h .1)) in
-      ap (chunk CSEG) (contents-back (payload p) t n m (contents-sound-is (payload p) t n m (g .inside)) (bytes-part p (word p 4) 8 b))
+      ap (λ (x : Edition). chunk CSEG (payloadBytes (groupOf x (payload p) t n m))) (sym same)
+      ∙ ap (chunk CSEG) (contents-back (payload p) t n m inside (bytes-part p (word p 4) 8 b))
       ∙ sym (ap (take (8 + word p 4)) (chunk-read p 0 CSEG (word p 4) b (h .0) refl (h .1))
       ∙ take-at (chunk CSEG (payload p)) _ (8 + word p 4) (length-chunk CSEG (payload p) refl ∙ ap (λ x. 8 + x) long))
 
@@ -79,7 +88,7 @@ module _ (g : Group) (a : Allowed g) where
       let t = short in
       (omega arith, omega arith)
 
-  pub contents-written : contents (payloadBytes g) ≡ Sound (length (g .text)) (length (g .records)) (length (pairs (g .records)))
+  pub contents-written : contents (payloadBytes g) ≡ Sound First (length (g .text)) (length (g .records)) (length (pairs (g .records)))
   contents-written =
       let l : ℕ = length (g .text) in
       let c : List ℕ = payloadBytes g in
@@ -90,7 +99,7 @@ module _ (g : Group) (a : Allowed g) where
       (length (g .records)) (ctabs-run (g .records) (a .whole) (a .ranges) (a .apart) c (8 + l) placed)
       (length (pairs (g .records))) (cntts-run (g .records) (a .whole) (a .ranges) (a .apart) c (8 + l) placed)
 
-  pub value-back : groupOf (payloadBytes g) (length (g .text)) (length (g .records)) (length (pairs (g .records))) ≡ g
+  pub value-back : groupOf First (payloadBytes g) (length (g .text)) (length (g .records)) (length (pairs (g .records))) ≡ g
   unfolding groupOf
   value-back =
       λ i. record { text = text-back i; records = records-back (g .records) (a .whole) (a .ranges) (a .apart) (payloadBytes g) (8 + length (g .text)) placed i }
@@ -116,7 +125,7 @@ module _ (g : Group) (a : Allowed g) where
         record {
           cntts = length (pairs (g .records));
           sound = group-sound (groupBytes g ++ x) 0 (sym (rw cseg-tag (written-head (groupBytes g ++ x) 0 CSEG (payloadBytes g) x refl chunked (omega (arith, payload-short .1))))) refl l
-              (sym length-there) (omega (arith, payload-short .0)) _ _ _
+              (sym length-there) (omega (arith, payload-short .0)) _ _ _ _
               (rw (z, rest-there, take-at (payloadBytes g) x (length (payloadBytes g)) refl) contents-written);
           size = ap (λ y. 8 + y) length-there ∙ sym (length-chunk CSEG (payloadBytes g) refl);
           back = rw payload-there value-back;

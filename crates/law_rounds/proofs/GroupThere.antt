@@ -5,6 +5,7 @@ use mathlib.Core.List.{List, _++_, append-assoc, flatMap}
 use native.Mathlib.Omega.{arith}
 use lib.ListN.{length, getD, take, drop}
 use lib.Seq.{drop-drop, take-at, drop-at}
+use Rattle.layout.specs.declared.edition.Edition.the-variants.{First}
 use Rattle.layout.specs.Bytes.{word, CSEG, Sdec, chunk}
 use Rattle.layout.specs.declared.turn.Judged.the-variants.{Sound}
 use Rattle.layout.specs.Records.{blank, channelOf}
@@ -25,7 +26,7 @@ module _ (s : List ℕ) (at : ℕ) (g : Group) (y : List ℕ) (e : drop at s ≡
   pub there-cntts : ℕ
   there-cntts = group-read g a y .cntts
 
-  pub there-sound : groupAt (drop at s) ≡ Sound (length (g .text)) (length (g .records)) there-cntts
+  pub there-sound : groupAt (drop at s) ≡ Sound First (length (g .text)) (length (g .records)) there-cntts
   unfolding there-cntts
   there-sound = ap groupAt e ∙ group-read g a y .sound
 
@@ -35,7 +36,7 @@ module _ (s : List ℕ) (at : ℕ) (g : Group) (y : List ℕ) (e : drop at s ≡
   pub there-value : groupValue (drop at s) (groupAt (drop at s)) ≡ g
   unfolding groupValue there-cntts
   there-value =
-      ap (groupValue (drop at s)) there-sound ∙ ap (λ x. groupOf (payload x) (length (g .text)) (length (g .records)) there-cntts) e ∙ group-read g a y .back
+      ap (groupValue (drop at s)) there-sound ∙ ap (λ x. groupOf First (payload x) (length (g .text)) (length (g .records)) there-cntts) e ∙ group-read g a y .back
 
   pub there-fits : at + 16 ≤ length s
   there-fits = omega (arith, written-fits s at CSEG (payloadBytes g) y refl chunked, payload-short g a .0)

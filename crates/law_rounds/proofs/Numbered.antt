@@ -14,13 +14,14 @@ use Rattle.layout.specs.declared.turn.Run.{Run}
 use Rattle.layout.specs.declared.turn.Run.the-variants.{Stopped, Ended}
 use Rattle.layout.specs.declared.turn.Judged.{Judged}
 use Rattle.layout.specs.declared.turn.Judged.the-variants.{Unsound, Sound}
-use Rattle.layout.specs.Ranges.{firstEdition, ranges, outOf}
+use Rattle.layout.specs.declared.edition.Edition.the-variants.{First}
+use Rattle.layout.specs.Ranges.{outOf, ruleAt}
 use Rattle.layout.specs.declared.record.Record.{Record}
 use Rattle.layout.specs.Records.{bytesOf, recordOf, blank, channelOf, firstBad, fileBytes}
 use Rattle.layout.specs.Sdec.{soundText}
 use Rattle.layout.specs.declared.answer.Standing.{Standing}
 use Rattle.layout.specs.Answers.{Answer, refused, granted, numberOf, afterRun}
-use Rattle.layout.specs.Group.{headFault, groupAt}
+use Rattle.layout.specs.Group.{headFault, ctabPlace, groupAt}
 use Rattle.layout.specs.Body.{groupPlace, sharing, afterContents, groupTurnAt, groupTurn, bodyRun, groupNo}
 use Rattle.layout.specs.Asked.{standing, ofGroup, rowIn, ofChannel, recordsRead}
 use Rattle.layout.specs.Write.{groupBytes, recordOn, recordTurn, recordsRun, groupFrom, written}
@@ -60,7 +61,7 @@ module _ (s : List ℕ) (n at k place : ℕ) where
   after-numbered : (r : Judged) → groupAt (drop at s) ≡ r → afterContents s n at r ≡ Refused k place → 0 < k
   unfolding afterContents
   after-numbered (Unsound a b) e q = let z : a ≡ k = cc in rw z at (refusal-some (drop at s) a b e)
-  after-numbered (Sound t c m) e q = go (ltb (sharing s n at) n) q
+  after-numbered (Sound ed t c m) e q = go (ltb (sharing s n at) n) q
     where
       go : (b : Bool) → cond b (Refused 13 at) More ≡ Refused k place → 0 < k
       go true w = let z : 13 ≡ k = cc in omega arith
@@ -99,34 +100,34 @@ edited-numbered s g channel new =
     let row : ℕ = rowIn s x channel in
     run-numbered (bodyRun s) _ (body-numbered s)
     (λ n. if-numbered (leb n g) 16 0 _ (omega arith) (if-numbered (leb (x .records) row) 15 0 _ (omega arith) (if-numbered (not (eqb (channelOf new) channel)) 16 0 _ (omega arith)
-    (if-numbered (ltb (firstEdited firstEdition new) 26) 9 (firstEdited firstEdition new) _ (omega arith) (granted-numbered (replaced s (x .ctabs + 35 * row + 8) (fileBytes new)))))))
+    (if-numbered (ltb (firstEdited new) 26) 9 (firstEdited new) _ (omega arith) (granted-numbered (replaced s (ctabPlace (x .edition) (x .ctabs) row + 8) (fileBytes new)))))))
 
 pub field-numbered : (r : Record) (index value : ℕ) → Numbered (fieldSet r index value)
 unfolding fieldSet
 field-numbered r index value =
-    if-numbered (leb 26 index) 16 0 _ (omega arith) (if-numbered (outOf ranges index value) 9 index _ (omega arith)
+    if-numbered (leb 26 index) 16 0 _ (omega arith) (if-numbered (outOf First index (ruleAt (bytesOf r) 0 index) value) 9 index _ (omega arith)
     (granted-numbered (recordOf (set (bytesOf r) index value) (r .second))))
 
 -- ---- writing
 
-record-numbered : (rs : List Record) (i k place : ℕ) → recordTurn firstEdition rs i ≡ Refused k place → 0 < k
+record-numbered : (rs : List Record) (i k place : ℕ) → recordTurn rs i ≡ Refused k place → 0 < k
 unfolding recordTurn
-record-numbered rs i k place e = go (ltb (firstBad firstEdition (getD rs i blank)) 26) (ltb (recordOn rs i (channelOf (getD rs i blank))) i) e
+record-numbered rs i k place e = go (ltb (firstBad (getD rs i blank)) 26) (ltb (recordOn rs i (channelOf (getD rs i blank))) i) e
   where
-    go : (a b : Bool) → cond a (Refused 9 (27 * i + firstBad firstEdition (getD rs i blank))) (cond b (Refused 10 (27 * i)) More) ≡ Refused k place → 0 < k
+    go : (a b : Bool) → cond a (Refused 9 (27 * i + firstBad (getD rs i blank))) (cond b (Refused 10 (27 * i)) More) ≡ Refused k place → 0 < k
     go true b q = let z : 9 ≡ k = cc in omega arith
     go false true q = let z : 10 ≡ k = cc in omega arith
     go false false q = absurd (let z : _≡_ {A = ℕ} 0 1 = cc in omega arith)
 
-records-run-numbered : (rs : List Record) (k place : ℕ) → recordsRun firstEdition rs ≡ Stopped k place → 0 < k
+records-run-numbered : (rs : List Record) (k place : ℕ) → recordsRun rs ≡ Stopped k place → 0 < k
 unfolding recordsRun
 records-run-numbered rs k place e =
-    run-stopped (recordTurn firstEdition rs) (λ n. Unit {0}) (λ n held m. tt) (λ a b. 0 < a) (λ n a b held m. record-numbered rs n a b m) (length rs) k place tt e
+    run-stopped (recordTurn rs) (λ n. Unit {0}) (λ n held m. tt) (λ a b. 0 < a) (λ n a b held m. record-numbered rs n a b m) (length rs) k place tt e
 
 pub written-numbered : (text : List ℕ) (table : List Record) (count room : ℕ) → Numbered (written text table count room)
 unfolding written
 written-numbered text table count room =
     let b : List ℕ = groupBytes (groupFrom text table count) in
     if-numbered (ltb (length table) count) 16 0 _ (omega arith) (if-numbered (not (soundText text)) 8 0 _ (omega arith)
-    (run-numbered (recordsRun firstEdition (take count table)) _ (records-run-numbered (take count table))
+    (run-numbered (recordsRun (take count table)) _ (records-run-numbered (take count table))
     (λ n. if-numbered (ltb room (length b)) 14 0 _ (omega arith) (granted-numbered b))))

@@ -8,7 +8,8 @@ use lib.ListN.{length, set, length-set}
 use lib.Seq.{take-all}
 use Rattle.layout.specs.declared.record.Record.{Record}
 use Rattle.layout.specs.declared.record.SecondTable.{SecondTable}
-use Rattle.layout.specs.Ranges.{firstEdition, outOf}
+use Rattle.layout.specs.declared.edition.Edition.the-variants.{First}
+use Rattle.layout.specs.Ranges.{outOf, ruleAt}
 use Rattle.layout.specs.Records.{bytesOf, recordOf}
 use Rattle.layout.specs.Answers.{granted}
 use Rattle.layout.specs.Write.{Whole}
@@ -71,6 +72,6 @@ unfolding fieldSet
 set-alone r after index value e =
     let new : Record = recordOf (set (bytesOf r) index value) (r .second) in
     let a = if-granted (leb 26 index) 16 0 _ after e in
-    let b = if-granted (outOf (firstEdition .ranges) index value) 9 index (granted new) after (a .1) in
+    let b = if-granted (outOf First index (ruleAt (bytesOf r) 0 index) value) 9 index (granted new) after (a .1) in
     let z : new ≡ after = granted-once new after (b .1) in
     rw (← z) (set-bytes r index value, set-second (set (bytesOf r) index value) (r .second))

@@ -4,7 +4,7 @@ use mathlib.Core.Path.{_≡_, sym, ap, ap₂, _∙_}
 use mathlib.Core.List.{List, [], _++_, append-nil, flatMap}
 use native.Mathlib.Omega.{arith}
 use lib.ListN.{length, getD, drop, length-append, length-drop}
-use Rattle.layout.specs.Ranges.{firstEdition}
+use Rattle.layout.specs.declared.edition.Edition.the-variants.{First}
 use Rattle.layout.specs.declared.record.Record.{Record}
 use Rattle.layout.specs.Records.{blank, channelOf}
 use Rattle.layout.specs.Group.{ctabChannel, cnttChannel}
@@ -47,7 +47,7 @@ module _ (rs : List Record) (c : List ℕ) (p : ℕ) (e : drop p c ≡ flatMap c
       }
 
 module _ (rs : List Record) (c : List ℕ) (p : ℕ) (h : Placed rs c p) where
-  pub ctab-channel : (i : ℕ) → i < length rs → ctabChannel firstEdition c p i ≡ channelOf (getD rs i blank)
+  pub ctab-channel : (i : ℕ) → i < length rs → ctabChannel First c p i ≡ channelOf (getD rs i blank)
   unfolding ctabChannel
   ctab-channel i l = channel-at c (p + 35 * i) (getD rs i blank) _ (h .ctab i l)
 
@@ -58,7 +58,7 @@ module _ (rs : List Record) (c : List ℕ) (p : ℕ) (h : Placed rs c p) where
   pub cntt-value : (j : ℕ) → j < length (pairs rs) → getD c (p + 35 * length rs + 10 * j + 9) 0 ≡ getD (pairs rs) j (0, 0) .1
   cntt-value j l = pair-value c (p + 35 * length rs + 10 * j) _ _ _ (h .cntt j l)
 
-  pub follows : Apart (λ i. channelOf (getD rs i blank)) (length rs) → Follows (length rs) (length (pairs rs)) (ctabChannel firstEdition c p) (cnttChannel c (p + 35 * length rs)) (home rs)
+  pub follows : Apart (λ i. channelOf (getD rs i blank)) (length rs) → Follows (length rs) (length (pairs rs)) (ctabChannel First c p) (cnttChannel c (p + 35 * length rs)) (home rs)
   follows apart =
       let own = homes rs in
       record {

@@ -12,7 +12,7 @@ use Rattle.layout.specs.Lists.{rows}
 use Rattle.layout.specs.Bytes.{tagged, Cntt}
 use Rattle.layout.specs.declared.turn.Turn.the-variants.{More}
 use Rattle.layout.specs.declared.turn.Run.the-variants.{Ended}
-use Rattle.layout.specs.Ranges.{firstEdition}
+use Rattle.layout.specs.declared.edition.Edition.the-variants.{First}
 use Rattle.layout.specs.declared.record.Record.{Record}
 use Rattle.layout.specs.declared.record.SecondTable.{SecondTable}
 use Rattle.layout.specs.declared.record.SecondTable.the-variants.{Absent, Value}
@@ -37,7 +37,7 @@ use Rattle.law_rounds.proofs.CnttOrder.{follows-ordered}
 use Rattle.law_rounds.proofs.CnttRounds.{cntt-goes, cntt-written}
 
 module _ (rs : List Record) (whole : (i : ℕ) → i < length rs → Whole (getD rs i blank))
-    (good : (i : ℕ) → i < length rs → firstBad firstEdition (getD rs i blank) ≡ 26)
+    (good : (i : ℕ) → i < length rs → firstBad (getD rs i blank) ≡ 26)
     (apart : Apart (λ i. channelOf (getD rs i blank)) (length rs)) (c : List ℕ) (p : ℕ) (placed : Placed rs c p) where
   abbrev n : ℕ
   n = length rs
@@ -50,7 +50,7 @@ module _ (rs : List Record) (whole : (i : ℕ) → i < length rs → Whole (getD
 
   -- ---- both runs
 
-  ctab-more : (i : ℕ) → i < n → ctabTurn firstEdition c p i ≡ More
+  ctab-more : (i : ℕ) → i < n → ctabTurn First c p i ≡ More
   unfolding ctabTurn
   ctab-more i l =
       ctab-goes c p i (p + 35 * i)
@@ -76,9 +76,9 @@ module _ (rs : List Record) (whole : (i : ℕ) → i < length rs → Whole (getD
           let t : tagged c q Cntt ≡ true = ap (λ y. tagged c y Cntt) (sym (add-zero q)) ∙ x .0 in
           rw (ne-eqb q (length c) (λ y. omega (arith, placed .cover)), le-leb (q + 8) (length c) (omega (arith, placed .cover)), t)
 
-  pub ctabs-run : ctabsOf c p ≡ Ended n
+  pub ctabs-run : ctabsOf First c p ≡ Ended n
   unfolding ctabsOf ctabTurn
-  ctabs-run = ran-run (ctabTurn firstEdition c p) (length c + 1) n (omega (arith, placed .cover)) ctab-more (ctab-over c p n q over)
+  ctabs-run = ran-run (ctabTurn First c p) (length c + 1) n (omega (arith, placed .cover)) ctab-more (ctab-over First c p n q over)
 
   pub cntts-run : cnttsOf c p n ≡ Ended m
   unfolding cnttsOf cnttTurn
@@ -91,32 +91,32 @@ module _ (rs : List Record) (whole : (i : ℕ) → i < length rs → Whole (getD
   valueAt : ℕ → ℕ
   valueAt j = getD c (p + 35 * length rs + 10 * j + 9) 0
 
-  second-back : (i : ℕ) → i < length rs → secondOf c q m (ctabChannel firstEdition c p i) ≡ getD rs i blank .second
+  second-back : (i : ℕ) → i < length rs → secondOf c q m (ctabChannel First c p i) ≡ getD rs i blank .second
   unfolding secondOf cnttOf valueAt
   second-back i l = go (getD rs i blank .second) refl
     where
-      go : (o : SecondTable) → getD rs i blank .second ≡ o → valueOn (cnttChannel c q) valueAt m (ctabChannel firstEdition c p i) ≡ getD rs i blank .second
+      go : (o : SecondTable) → getD rs i blank .second ≡ o → valueOn (cnttChannel c q) valueAt m (ctabChannel First c p i) ≡ getD rs i blank .second
       go Absent x =
-          value-absent n m (ctabChannel firstEdition c p) (cnttChannel c q) (home rs) valueAt (follows rs c p placed apart) i l
+          value-absent n m (ctabChannel First c p) (cnttChannel c q) (home rs) valueAt (follows rs c p placed apart) i l
           (λ j u y. let w : getD rs i blank .second ≡ Value (getD (pairs rs) j (0, 0) .1) = rw y at (homes rs .valued j u) in let z : _≡_ {A = ℕ} 0 1 = cc in omega arith)
           ∙ sym x
       go (Value v) x =
           let h = homes rs .complete i v l x in
           let w : getD rs i blank .second ≡ Value (getD (pairs rs) (h .0) (0, 0) .1) = rw (h .2) at (homes rs .valued (h .0) (h .1)) in
-          value-there n m (ctabChannel firstEdition c p) (cnttChannel c q) (home rs) valueAt (follows rs c p placed apart) i (h .0) (h .1) (h .2) ∙ ap Value (cntt-value rs c p placed (h .0) (h .1)) ∙ sym w
+          value-there n m (ctabChannel First c p) (cnttChannel c q) (home rs) valueAt (follows rs c p placed apart) i (h .0) (h .1) (h .2) ∙ ap Value (cntt-value rs c p placed (h .0) (h .1)) ∙ sym w
 
-  record-back : (i : ℕ) → i < length rs → recordAt c p q m i ≡ getD rs i blank
+  record-back : (i : ℕ) → i < length rs → recordAt First c p q m i ≡ getD rs i blank
   unfolding recordAt
   record-back i l =
       ap₂ recordOf (held-at c (p + 35 * i) (getD rs i blank) _ (placed .ctab i l)) (second-back i l) ∙ bytes-read (getD rs i blank) (whole i l)
 
-  pub records-back : rows (recordAt c p q m) 0 n ≡ rs
-  records-back = rows-is (recordAt c p q m) blank rs record-back
+  pub records-back : rows (recordAt First c p q m) 0 n ≡ rs
+  records-back = rows-is (recordAt First c p q m) blank rs record-back
 
 -- ---- how many there are
 
 -- "a source channel has at most one in a group, so at most 16"
-pub at-most : (rs : List Record) → ((i : ℕ) → i < length rs → firstBad firstEdition (getD rs i blank) ≡ 26) → Apart (λ i. channelOf (getD rs i blank)) (length rs) → length rs ≤ 16
+pub at-most : (rs : List Record) → ((i : ℕ) → i < length rs → firstBad (getD rs i blank) ≡ 26) → Apart (λ i. channelOf (getD rs i blank)) (length rs) → length rs ≤ 16
 at-most rs good apart = at-most-sixteen (λ i. channelOf (getD rs i blank)) (length rs) (record { low = λ i l. ranged-channel _ (ranged (getD rs i blank) (omega (arith, good i l))); apart = apart })
 
 pub at-most-cntts : (rs : List Record) → length (pairs rs) ≤ length rs

@@ -4,6 +4,7 @@ use mathlib.Core.Path.{_≡_}
 use mathlib.Core.Logic.{_↔_}
 use mathlib.Core.List.{List, flatMap}
 use lib.ListN.{length, take, set}
+use Rattle.layout.specs.declared.edition.Edition.{Edition}
 use Rattle.layout.specs.declared.record.Record.{Record}
 use Rattle.layout.specs.declared.record.SecondTable.{SecondTable}
 use Rattle.layout.specs.declared.turn.Run.the-variants.{Ended}
@@ -33,9 +34,9 @@ pub record-back : (r : Record) → Whole r → recordOf (bytesOf r) (r .second) 
 record-back = bytes-read
 
 -- a sound group is given back byte for byte by writing it, and it may be written
-pub group-read-written : (p : List ℕ) (t n m : ℕ) → Bytes p → groupAt p ≡ Sound t n m
-    → (groupBytes (groupOf (payload p) t n m) ≡ take (groupSize p) p) × Allowed (groupOf (payload p) t n m)
-group-read-written p t n m b e = (group-back p t n m e b, group-allowed p t n m e)
+pub group-read-written : (p : List ℕ) (ed : Edition) (t n m : ℕ) → Bytes p → groupAt p ≡ Sound ed t n m
+    → (groupBytes (groupOf ed (payload p) t n m) ≡ take (groupSize p) p) × Allowed (groupOf ed (payload p) t n m)
+group-read-written p ed t n m b e = (group-back p ed t n m e b, group-allowed p ed t n m e)
 
 -- a group that may be written is read back from its bytes, whatever stands behind them
 pub group-written-read : (g : Group) (x : List ℕ) → Allowed g → GroupRead g x

@@ -15,7 +15,7 @@ use Rattle.layout.specs.declared.turn.Turn.{Turn}
 use Rattle.layout.specs.declared.turn.Turn.the-variants.{Refused, More, Done}
 use Rattle.layout.specs.declared.turn.Run.{Run}
 use Rattle.layout.specs.declared.turn.Run.the-variants.{Stopped, Ended}
-use Rattle.layout.specs.Ranges.{firstEdition}
+use Rattle.layout.specs.declared.edition.Edition.the-variants.{First}
 use Rattle.layout.specs.declared.record.Record.{Record}
 use Rattle.layout.specs.Records.{blank, channelOf, badByte, firstBad}
 use Rattle.layout.specs.Sdec.{soundText}
@@ -31,25 +31,25 @@ use Rattle.law_rounds.proofs.Runs.{run-ran}
 module _ (rs : List Record) (i : ℕ) where
   -- it is in range, and no record before it has its source channel
   abbrev Good : Type 0
-  Good = (firstBad firstEdition (getD rs i blank) ≡ 26) × ((j : ℕ) → j < i → channelOf (getD rs j blank) ≡ channelOf (getD rs i blank) → ⊥)
+  Good = (firstBad (getD rs i blank) ≡ 26) × ((j : ℕ) → j < i → channelOf (getD rs j blank) ≡ channelOf (getD rs i blank) → ⊥)
 
   abbrev verdict : Bool → Bool → Turn
-  verdict a b = cond a (Refused 9 (27 * i + firstBad firstEdition (getD rs i blank))) (cond b (Refused 10 (27 * i)) More)
+  verdict a b = cond a (Refused 9 (27 * i + firstBad (getD rs i blank))) (cond b (Refused 10 (27 * i)) More)
 
-  not-done : recordTurn firstEdition rs i ≡ Done → ⊥
+  not-done : recordTurn rs i ≡ Done → ⊥
   unfolding recordTurn
-  not-done e = go (ltb (firstBad firstEdition (getD rs i blank)) 26) (ltb (recordOn rs i (channelOf (getD rs i blank))) i) e
+  not-done e = go (ltb (firstBad (getD rs i blank)) 26) (ltb (recordOn rs i (channelOf (getD rs i blank))) i) e
     where
       go : (a b : Bool) → verdict a b ≡ Done → ⊥
       go true b q = let z : _≡_ {A = ℕ} 0 1 = cc in omega arith
       go false true q = let z : _≡_ {A = ℕ} 0 1 = cc in omega arith
       go false false q = let z : _≡_ {A = ℕ} 0 1 = cc in omega arith
 
-  in-range : ltb (firstBad firstEdition (getD rs i blank)) 26 ≡ false → firstBad firstEdition (getD rs i blank) ≡ 26
+  in-range : ltb (firstBad (getD rs i blank)) 26 ≡ false → firstBad (getD rs i blank) ≡ 26
   unfolding firstBad
   in-range e =
-      let w : 26 ≤ first (badByte firstEdition (getD rs i blank)) 0 26 = ltb-false _ _ e in
-      omega (arith, first-within (badByte firstEdition (getD rs i blank)) 26)
+      let w : 26 ≤ first (badByte (getD rs i blank)) 0 26 = ltb-false _ _ e in
+      omega (arith, first-within (badByte (getD rs i blank)) 26)
 
   own-channel : ltb (recordOn rs i (channelOf (getD rs i blank))) i ≡ false → (j : ℕ) → j < i → channelOf (getD rs j blank) ≡ channelOf (getD rs i blank) → ⊥
   unfolding recordOn
@@ -57,16 +57,16 @@ module _ (rs : List Record) (i : ℕ) where
       let w : i ≤ first (λ j. eqb (channelOf (getD rs j blank)) (channelOf (getD rs i blank))) 0 i = ltb-false _ _ e in
       eqb-false _ _ (first-passed (λ j. eqb (channelOf (getD rs j blank)) (channelOf (getD rs i blank))) i j (omega arith))
 
-  more-good : recordTurn firstEdition rs i ≡ More → Good
+  more-good : recordTurn rs i ≡ More → Good
   unfolding recordTurn
-  more-good e = go (ltb (firstBad firstEdition (getD rs i blank)) 26) (ltb (recordOn rs i (channelOf (getD rs i blank))) i) refl refl e
+  more-good e = go (ltb (firstBad (getD rs i blank)) 26) (ltb (recordOn rs i (channelOf (getD rs i blank))) i) refl refl e
     where
-      go : (a b : Bool) → ltb (firstBad firstEdition (getD rs i blank)) 26 ≡ a → ltb (recordOn rs i (channelOf (getD rs i blank))) i ≡ b → verdict a b ≡ More → Good
+      go : (a b : Bool) → ltb (firstBad (getD rs i blank)) 26 ≡ a → ltb (recordOn rs i (channelOf (getD rs i blank))) i ≡ b → verdict a b ≡ More → Good
       go true b f g q = absurd (let z : _≡_ {A = ℕ} 0 1 = cc in omega arith)
       go false true f g q = absurd (let z : _≡_ {A = ℕ} 0 1 = cc in omega arith)
       go false false f g q = (in-range f, own-channel g)
 
-  good-more : Good → recordTurn firstEdition rs i ≡ More
+  good-more : Good → recordTurn rs i ≡ More
   unfolding recordTurn recordOn
   good-more h =
       let none : first (λ j. eqb (channelOf (getD rs j blank)) (channelOf (getD rs i blank))) 0 i ≡ i =
@@ -81,21 +81,21 @@ goes-on turn k zero h = ap Ended (sym (add-zero k))
 goes-on turn k (suc n) h = rw (h k (omega arith), runOf) (goes-on turn (suc k) n (λ i l. h i (omega arith)) ∙ ap Ended (omega arith))
 
 module _ (rs : List Record) where
-  ended-good : (n : ℕ) → recordsRun firstEdition rs ≡ Ended n → (i : ℕ) → i < length rs → Good rs i
+  ended-good : (n : ℕ) → recordsRun rs ≡ Ended n → (i : ℕ) → i < length rs → Good rs i
   unfolding recordsRun
   ended-good n e i l =
-      let r = run-ran (recordTurn firstEdition rs) (length rs) n e in
+      let r = run-ran (recordTurn rs) (length rs) n e in
       more-good rs i (r .goes i (go (decLt n (length rs)) (r .stops)))
     where
-      go : Dec (n < length rs) → (n < length rs → recordTurn firstEdition rs n ≡ Done) → i < n
+      go : Dec (n < length rs) → (n < length rs → recordTurn rs n ≡ Done) → i < n
       go (yes m) f = absurd (not-done rs n (f m))
       go (no m) f = omega arith
 
-  good-ended : ((i : ℕ) → i < length rs → Good rs i) → recordsRun firstEdition rs ≡ Ended (length rs)
+  good-ended : ((i : ℕ) → i < length rs → Good rs i) → recordsRun rs ≡ Ended (length rs)
   unfolding recordsRun run
   good-ended h =
       let z : 0 + (length rs - 0) ≡ length rs = omega arith in
-      goes-on (recordTurn firstEdition rs) 0 (length rs - 0) (λ i l. good-more rs i (h i (omega arith))) ∙ ap Ended z
+      goes-on (recordTurn rs) 0 (length rs - 0) (λ i l. good-more rs i (h i (omega arith))) ∙ ap Ended z
 
 -- ---- the group
 
@@ -114,9 +114,9 @@ module _ (text : List ℕ) (table : List Record) (count room : ℕ) (b : List �
   written-may whole e =
       let f = if-granted (ltb (length table) count) 16 0 _ b e in
       let g = if-granted (not (soundText text)) 8 0 _ b (f .1) in
-      go (ltb-false _ _ (f .0)) (not-false _ (g .0)) (recordsRun firstEdition rs) refl (g .1)
+      go (ltb-false _ _ (f .0)) (not-false _ (g .0)) (recordsRun rs) refl (g .1)
     where
-      go : count ≤ length table → soundText text ≡ true → (r : Run) → recordsRun firstEdition rs ≡ r
+      go : count ≤ length table → soundText text ≡ true → (r : Run) → recordsRun rs ≡ r
           → afterRun r (λ n. cond (ltb room (length own)) (refused 14 0) (granted own)) ≡ granted b → MayBeWritten text table count room b
       go few sound (Stopped number place) run q = absurd (let z : _≡_ {A = ℕ} 0 1 = cc in omega arith)
       go few sound (Ended n) run q =
@@ -134,7 +134,7 @@ module _ (text : List ℕ) (table : List Record) (count room : ℕ) (b : List �
   pub may-written : MayBeWritten text table count room b → written text table count room ≡ granted b
   unfolding written afterRun
   may-written h =
-      let run : recordsRun firstEdition rs ≡ Ended (length rs) = good-ended rs (λ i l. (h .allowed .ranges i l, λ j k. h .allowed .apart j i k l)) in
+      let run : recordsRun rs ≡ Ended (length rs) = good-ended rs (λ i l. (h .allowed .ranges i l, λ j k. h .allowed .apart j i k l)) in
       let fits : length own ≤ room = rw (h .bytes) at (h .fits) in
       rw (le-ltb (length table) count (h .within), h .allowed .text, run, le-ltb room (length own) fits, afterRun) (ap granted (sym (h .bytes)))
 

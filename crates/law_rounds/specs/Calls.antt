@@ -6,8 +6,8 @@ use lib.ListN.{length, getD, take, drop, set}
 use Rattle.layout.specs.declared.record.Record.{Record}
 use Rattle.layout.specs.declared.answer.Counted.{Counted}
 use Rattle.layout.specs.declared.answer.Measured.{Measured}
-use Rattle.layout.specs.Ranges.{firstEdition}
-use Rattle.layout.specs.Records.{bytesOf, blank, fileBytes}
+use Rattle.layout.specs.Editions.{size, held}
+use Rattle.layout.specs.Records.{bytesOf, blank, editionOf, fileBytes}
 use Rattle.layout.specs.Answers.{granted}
 use Rattle.layout.specs.Group.{groupSize}
 use Rattle.layout.specs.Body.{groupPlace}
@@ -65,15 +65,15 @@ pub record ReadBack (body text : List ℕ) (records : List Record) : Type 0 wher
 pub record CtabChanged (before : List ℕ) (group channel : ℕ) (new : Record) (after : List ℕ) : Type 0 where
   pub row : Row
   pub found : channelFound before group channel ≡ granted row
-  pub within : row .at + firstEdition .size ≤ length before
+  pub within : row .at + size (editionOf new) ≤ length before
+  pub bytes : after ≡ take (row .at) before ++ (fileBytes new ++ drop (row .at + size (editionOf new)) before)
   pub size : length after ≡ length before
-  pub bytes : after ≡ take (row .at) before ++ (fileBytes new ++ drop (row .at + firstEdition .size) before)
 
 -- ---- a field
 
 -- "byte index 0-25 and a value, all other fields kept"
 pub record FieldChanged (before : Record) (index value : ℕ) (after : Record) : Type 0 where
-  pub within : index < firstEdition .held
+  pub within : index < held (editionOf before)
   pub bytes : bytesOf after ≡ set (bytesOf before) index value
   pub second : after .second ≡ before .second
   pub whole : Whole after

@@ -22,14 +22,14 @@ use Rattle.law_salvage.specs.Salvage.{ReadsAsOne, SoundGroup}
 
 -- a sound group has bytes
 pub group-some : (g : List ℕ) → SoundGroup g → 8 < length g
-group-some g h = rw (h .whole) at (size-some g (h .text) (h .ctabs) (h .cntts) (h .sound))
+group-some g h = rw (h .whole) at (size-some g (h .edition) (h .text) (h .ctabs) (h .cntts) (h .sound))
 
 module _ (g : List ℕ) (h : SoundGroup g) where
   goes-on : groupTurn g 0 ≡ More
   unfolding groupTurn groupPlace
   goes-on =
-      let head : headFault g 0 (four 0x43534547) ≡ 0 = rw cseg-tag (group-sound-is g (h .text) (h .ctabs) (h .cntts) (h .sound) .head) in
-      turn-sound g 0 0 (λ z. omega (arith, group-some g h)) (headFault g 0 (four 0x43534547)) refl head (omega arith) (h .text) (h .ctabs) (h .cntts) false (h .sound)
+      let head : headFault g 0 (four 0x43534547) ≡ 0 = rw cseg-tag (group-sound-is g (h .edition) (h .text) (h .ctabs) (h .cntts) (h .sound) .head) in
+      turn-sound g 0 0 (λ z. omega (arith, group-some g h)) (headFault g 0 (four 0x43534547)) refl head (omega arith) (h .edition) (h .text) (h .ctabs) (h .cntts) false (h .sound)
       (le-ltb (sharing g 0 0) 0 (omega arith))
 
   ends : groupTurn g 1 ≡ Done
@@ -44,7 +44,7 @@ unfolding groupPlace
 one-read g e =
     let a = body-accepted g 1 e in
     let m = a .each 0 (omega arith) in
-    record { text = m .text; ctabs = m .ctabs; cntts = m .cntts; sound = m .sound; whole = rw zero-add at (a .cover) }
+    record { edition = m .edition; text = m .text; ctabs = m .ctabs; cntts = m .cntts; sound = m .sound; whole = rw zero-add at (a .cover) }
 
 -- bytes within the limit read as one exactly when they are a sound group and no more
 pub reads-exactly : (g : List ℕ) → length g ≤ 32768 → SoundGroup g ↔ ReadsAsOne g

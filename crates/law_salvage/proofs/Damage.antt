@@ -18,7 +18,7 @@ use Rattle.law_salvage.proofs.Starts.{Lone, lone-first, groups-open, bo
 
 -- a sound group leads its own, before any bytes that complete no CSEG begun in it
 parts-lone : (g ys : List ℕ) → Lone g → Apart g ys → parts (g ++ ys) ≡ own g ∷ parts ys
-parts-lone g ys h a = let s = h .group in parts-group g ys (s .text) (s .ctabs) (s .cntts) (s .sound) (s .whole) (h .only) a
+parts-lone g ys h a = let s = h .group in parts-group g ys (s .edition) (s .text) (s .ctabs) (s .cntts) (s .sound) (s .whole) (h .only) a
 
 -- groups before any bytes that complete no CSEG begun in them
 parts-groups : (gs : List (List ℕ)) (x : List ℕ) → All Lone gs → Apart (flatten gs) x → parts (flatten gs ++ x) ≡ map own gs ++ parts x

@@ -7,6 +7,7 @@ use mathlib.Core.Logic.{_↔_}
 use mathlib.Core.List.{List, [], _∷_, map, append-nil, flatten, flatMap}
 use lib.ListN.{length, take, drop, length-take, length-drop}
 use lib.Seq.{length-take-le, drop-drop}
+use Rattle.layout.specs.declared.edition.Edition.{Edition}
 use Rattle.layout.specs.declared.turn.Judged.{Judged}
 use Rattle.layout.specs.declared.turn.Judged.the-variants.{Unsound, Sound}
 use Rattle.layout.specs.Group.{groupSize, groupAt}
@@ -38,17 +39,17 @@ rest-facts [] f = tt
 rest-facts (b ∷ s) f = (
   record {
     some = zero-lt-suc (length s);
-    exact = (λ h. absurd (omega arith), λ h. absurd (no-true (f 0) (sound-cseg (b ∷ s) (h .text) (h .ctabs) (h .cntts) (h .sound))));
+    exact = (λ h. absurd (omega arith), λ h. absurd (no-true (f 0) (sound-cseg (b ∷ s) (h .edition) (h .text) (h .ctabs) (h .cntts) (h .sound))));
   },
   tt,
 )
 
 -- the bytes of a sound group at the start of p, by themselves
-taken-group : (p : List ℕ) (t n m : ℕ) → groupAt p ≡ Sound t n m → SoundGroup (take (groupSize p) p)
-taken-group p t n m e =
-    let l : length (take (groupSize p) p) ≡ groupSize p = length-take-le (groupSize p) p (size-within p t n m e) in
-    let z : groupSize (take (groupSize p) p) ≡ groupSize p = rw append-nil at (size-own p [] t n m e) in
-    record { text = t; ctabs = n; cntts = m; sound = rw append-nil at (sound-own p [] t n m e); whole = rw (l, z) }
+taken-group : (p : List ℕ) (ed : Edition) (t n m : ℕ) → groupAt p ≡ Sound ed t n m → SoundGroup (take (groupSize p) p)
+taken-group p ed t n m e =
+    let l : length (take (groupSize p) p) ≡ groupSize p = length-take-le (groupSize p) p (size-within p ed t n m e) in
+    let z : groupSize (take (groupSize p) p) ≡ groupSize p = rw append-nil at (size-own p [] ed t n m e) in
+    record { edition = ed; text = t; ctabs = n; cntts = m; sound = rw append-nil at (sound-own p [] ed t n m e); whole = rw (l, z) }
 
 -- past its start a piece has no CSEG
 pub dropped-free : (p : List ℕ) → Piece p → (n : ℕ) → 0 < n → Free (drop n p)
@@ -61,10 +62,10 @@ piece-some (b ∷ p) c = zero-lt-suc (length p)
 
 listed-facts : (p : List ℕ) → Piece p → (v : Judged) → groupAt p ≡ v → Facts (listed p v)
 unfolding listed
-listed-facts p c (Sound t n m) e =
-    let l : 8 < groupSize p = size-some p t n m e in
-    let w : length (take (groupSize p) p) ≡ groupSize p = length-take-le (groupSize p) p (size-within p t n m e) in
-    (record { some = rw w (omega arith); exact = (λ _. taken-group p t n m e, λ _. refl) }, rest-facts (drop (groupSize p) p) (dropped-free p c (groupSize p) (omega arith)))
+listed-facts p c (Sound ed t n m) e =
+    let l : 8 < groupSize p = size-some p ed t n m e in
+    let w : length (take (groupSize p) p) ≡ groupSize p = length-take-le (groupSize p) p (size-within p ed t n m e) in
+    (record { some = rw w (omega arith); exact = (λ _. taken-group p ed t n m e, λ _. refl) }, rest-facts (drop (groupSize p) p) (dropped-free p c (groupSize p) (omega arith)))
 listed-facts p c (Unsound number place) e = (
   record {
     some = piece-some p c;

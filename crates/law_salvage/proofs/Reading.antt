@@ -3,6 +3,7 @@ use Prim.Native.Nat.{ℕ, _+_, _≤_}
 use mathlib.Core.Path.{_≡_}
 use mathlib.Core.List.{List, _++_}
 use lib.ListN.{length, take}
+use Rattle.layout.specs.declared.edition.Edition.{Edition}
 use Rattle.layout.specs.Group.{groupSize, groupAt}
 use Rattle.layout.specs.Body.{groupPlace, bodyRun}
 use Rattle.layout.specs.Answers.{refused, granted, Span}
@@ -14,8 +15,8 @@ use Rattle.read_salvage.proofs.Verdicts.{sound-own}
 use Rattle.read_style.proofs.PlaceLaws.{casm-refuses, casm-stands}
 
 -- a sound group is the same group by its own bytes, whatever follows them
-pub sound-by-its-own-bytes : (p x : List ℕ) (text ctabs cntts : ℕ) → groupAt p ≡ Sound text ctabs cntts → groupAt (take (groupSize p) p ++ x) ≡ Sound text ctabs cntts
-sound-by-its-own-bytes p x text ctabs cntts e = sound-own p x text ctabs cntts e
+pub sound-by-its-own-bytes : (p x : List ℕ) (edition : Edition) (text ctabs cntts : ℕ) → groupAt p ≡ Sound edition text ctabs cntts → groupAt (take (groupSize p) p ++ x) ≡ Sound edition text ctabs cntts
+sound-by-its-own-bytes p x edition text ctabs cntts e = sound-own p x edition text ctabs cntts e
 
 -- the groups of an accepted body cover it: each begins where the one before ends, and the last ends with the body
 pub accepted-is-covered : (s : List ℕ) (n : ℕ) → bodyRun s ≡ Ended n → groupPlace s n ≡ length s

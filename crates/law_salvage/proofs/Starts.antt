@@ -25,7 +25,7 @@ pub record Lone (g : List ℕ) : Type 0 where
   pub only : (k : ℕ) → cseg (drop (suc k) g) ≡ false
 
 pub lone-first : (g : List ℕ) → Lone g → cseg g ≡ true
-lone-first g h = let s = h .group in sound-cseg g (s .text) (s .ctabs) (s .cntts) (s .sound)
+lone-first g h = let s = h .group in sound-cseg g (s .edition) (s .text) (s .ctabs) (s .cntts) (s .sound)
 
 -- groups, one after the other, are nothing or begin with CSEG
 pub groups-open : (gs : List (List ℕ)) → All Lone gs → Opens (flatten gs)

@@ -5,6 +5,7 @@ use mathlib.Core.Logic.{_⊎_}
 use mathlib.Core.Bool.{true}
 use mathlib.Core.List.{List, [], _∷_, _++_, flatten}
 use lib.ListN.{length, take, drop}
+use Rattle.layout.specs.declared.edition.Edition.{Edition}
 use Rattle.layout.specs.declared.answer.Counted.{Counted}
 use Rattle.layout.specs.declared.turn.Judged.the-variants.{Sound}
 use Rattle.layout.specs.declared.turn.Run.the-variants.{Ended}
@@ -32,10 +33,11 @@ ReadsAsOne s = bodyRun s ≡ Ended 1
 
 -- g is a sound group, and no more
 pub record SoundGroup (g : List ℕ) : Type 0 where
+  pub edition : Edition
   pub text : ℕ
   pub ctabs : ℕ
   pub cntts : ℕ
-  pub sound : groupAt g ≡ Sound text ctabs cntts
+  pub sound : groupAt g ≡ Sound edition text ctabs cntts
   pub whole : groupSize g ≡ length g
 
 -- one of these groups, which stand one after the other from place i on, starts at k

@@ -4,8 +4,12 @@
 pub const RECORD: usize = 27;
 
 pub const HELD: usize = 26;
-// A Ctab with its header: one stands so far from the next.
+// A record of the second edition in the file; all of it is held.
+pub const SECOND_RECORD: usize = 47;
+// A Ctab with its header: one stands so far from the next; and a Ctb2.
 pub const CTAB_STRIDE: usize = 35;
+
+pub const CTB2_STRIDE: usize = 55;
 // What a Cntt holds, and a Cntt with its header.
 pub const CNTT_BYTES: usize = 2;
 

@@ -11,4 +11,6 @@ pub const SDEC: usize = 0x5364_6563;
 
 pub const CTAB: usize = 0x4374_6162;
 
+pub const CTB2: usize = 0x4374_6232;
+
 pub const CNTT: usize = 0x436E_7474;

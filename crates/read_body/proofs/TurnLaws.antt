@@ -10,6 +10,8 @@ use lib.Seq.{getD-set-same, getD-set-other}
 use Rattle.layout.specs.Bytes.{word, four}
 use Rattle.layout.specs.Group.{headFault, contents, groupAt}
 use Rattle.layout.specs.Body.{groupPlace, groupTurnAt, groupTurn}
+use Rattle.layout.specs.declared.edition.Edition.{Edition}
+use Rattle.layout.specs.declared.edition.Edition.the-variants.{First}
 use Rattle.layout.specs.declared.turn.Turn.{Turn}
 use Rattle.layout.specs.declared.turn.Turn.the-variants.{Refused, More, Done}
 use Rattle.layout.specs.declared.turn.Judged.the-variants.{Unsound, Sound}
@@ -48,8 +50,8 @@ module _ (s : List ℕ) (at f : ℕ) (e : f ≡ headFault s at (four 0x43534547)
         omega (arith, contents-place (inside s at l) number place c, length-take (at + 8 + l - (at + 8)) (drop (at + 8) s), length-drop (at + 8) s)
 
     -- the text of a sound group, and where it ends
-    pub text-is : (t c m : ℕ) → (l ≡ 0 → ⊥) → contents (inside s at l) ≡ Sound t c m → (t ≡ word s (at + 12)) × (at + 16 + t ≤ length s)
-    text-is t c m d is = let g = group-there s 0 at t c m h (there-sound s at f h e z l q d t c m is) in (g .0, omega (arith, g .1 .0, g .1 .1))
+    pub text-is : (ed : Edition) (t c m : ℕ) → (l ≡ 0 → ⊥) → contents (inside s at l) ≡ Sound ed t c m → (t ≡ word s (at + 12)) × (at + 16 + t ≤ length s)
+    text-is ed t c m d is = let g = group-there s 0 at ed t c m h (there-sound s at f h e z l q d ed t c m is) in (g .0, omega (arith, g .1 .0, g .1 .1))
 
 -- ---- the ways out of a turn
 
@@ -87,18 +89,18 @@ module _ (s : List ℕ) (n at : ℕ) (here : at ≡ groupPlace s n) (r : Turned)
               let y : at + (8 + place) ≡ at + 8 + place = omega arith in
               refusing number (at + 8 + place) t (rw y at (turn-unsound s n at o f e z w number (8 + place) (there-unsound s at f h e z l q d number place c)))
 
-          module _ (t c m : ℕ) (is : contents (inside s at l) ≡ Sound t c m) where
-            sound-there : groupAt (drop at s) ≡ Sound t c m
-            sound-there = there-sound s at f h e z l q d t c m is
+          module _ (ed : Edition) (t c m : ℕ) (is : contents (inside s at l) ≡ Sound ed t c m) where
+            sound-there : groupAt (drop at s) ≡ Sound ed t c m
+            sound-there = there-sound s at f h e z l q d ed t c m is
 
             pub turned-again : NamedBefore s n at true table → r .turn ≡ Refused 13 at → GroupTurned s n at r table
-            turned-again b v = refusing 13 at v (turn-sound s n at o f e z w t c m true sound-there (sym (b .answer)))
+            turned-again b v = refusing 13 at v (turn-sound s n at o f e z w ed t c m true sound-there (sym (b .answer)))
 
             pub turned-more : NamedBefore s n at false table → r .turn ≡ More → r .records ≡ c → r .seconds ≡ m → GroupTurned s n at r table
             turned-more b v x y =
                 record {
-                  turn = turn-is More v (turn-sound s n at o f e z w t c m false sound-there (sym (b .answer)));
-                  sound = λ _. rw (x, y, ← (text-is s at f e z h l q t c m d is .0)) sound-there;
+                  turn = turn-is More v (turn-sound s n at o f e z w ed t c m false sound-there (sym (b .answer)));
+                  sound = λ _. rw (x, y, group-sound-is (drop at s) ed t c m sound-there .edition, ← (text-is s at f e z h l q ed t c m d is .0)) sound-there;
                   noted = λ _. let own = b .noted refl in marks-next s n table (own .0) at here (own .1);
                 }
 
@@ -133,14 +135,14 @@ module _ (s : List ℕ) where
         go k a (yes b) = known .fits k b
         go k a (no b) = let q : k ≡ n = omega arith in rw (q, ← here) h
 
-    pub insides-next : (t u : List ℕ) (x y : ℕ) → Insides s n t u → groupAt (drop at s) ≡ Sound (word s (at + 12)) x y → Insides s (n + 1) (set t n x) (set u n y)
+    pub insides-next : (t u : List ℕ) (x y : ℕ) → Insides s n t u → groupAt (drop at s) ≡ Sound First (word s (at + 12)) x y → Insides s (n + 1) (set t n x) (set u n y)
     insides-next t u x y known h =
         record {
           sizes = (length-set t n x ∙ known .sizes .0, length-set u n y ∙ known .sizes .1);
           sound = λ k a. go k a (decLt k n);
         }
       where
-        go : (k : ℕ) → k < n + 1 → Dec (k < n) → groupAt (drop (groupPlace s k) s) ≡ Sound (word s (groupPlace s k + 12)) (getD (set t n x) k 0) (getD (set u n y) k 0)
+        go : (k : ℕ) → k < n + 1 → Dec (k < n) → groupAt (drop (groupPlace s k) s) ≡ Sound First (word s (groupPlace s k + 12)) (getD (set t n x) k 0) (getD (set u n y) k 0)
         go k a (yes b) =
             let q : k ≡ n → ⊥ = λ e. absurd (omega arith) in
             rw (getD-set-other t n k x 0 q, getD-set-other u n k y 0 q) (known .sound k b)
@@ -149,9 +151,9 @@ module _ (s : List ℕ) where
             rw (q, ← here, getD-set-same t n x 0 (omega (arith, known .sizes .0)), getD-set-same u n y 0 (omega (arith, known .sizes .1))) h
 
 -- a body that is not over the limit has no room for more Ctabs or Cntts than two bytes count
-pub counts-small : (s : List ℕ) (at x y : ℕ) → groupAt (drop at s) ≡ Sound (word s (at + 12)) x y → length s ≤ 32768 → (x < 65536) × (y < 65536)
+pub counts-small : (s : List ℕ) (at x y : ℕ) → groupAt (drop at s) ≡ Sound First (word s (at + 12)) x y → length s ≤ 32768 → (x < 65536) × (y < 65536)
 counts-small s at x y h l =
-    let g = group-sound-is (drop at s) (word s (at + 12)) x y h in
+    let g = group-sound-is (drop at s) First (word s (at + 12)) x y h in
     (omega (arith, g .size, g .within, length-drop at s), omega (arith, g .size, g .within, length-drop at s))
 
 -- a turn that goes on: the group is one of 32, and it and its text stand within the body
@@ -159,7 +161,7 @@ pub more-within : (s : List ℕ) (n at : ℕ) (r : Turned) (table : List ℕ) �
     → (n < 32) × ((at + 8 + word s (at + 4) ≤ length s) × (at + 16 + word s (at + 12) ≤ length s))
 unfolding groupTurn
 more-within s n at r table turned here h m =
-    let g = group-there s n at (word s (at + 12)) (r .records) (r .seconds) h (turned .sound m) in
+    let g = group-there s n at First (word s (at + 12)) (r .records) (r .seconds) h (turned .sound m) in
     let more = group-more s n at (rw here (sym (turned .turn) ∙ m)) in
     (more .few, (g .1 .1, omega (arith, g .1 .0, g .1 .1)))
 

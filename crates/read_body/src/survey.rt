@@ -73,7 +73,7 @@ fn group_turn(
     let end = start + length;
     match read_group::judge_contents(&s[start..end]) {
         Judged::Unsound(number, place) => ending(Turn::Refused(number, start + place)),
-        Judged::Sound(text, records, seconds) => {
+        Judged::Sound(_, text, records, seconds) => {
             if read_met::is_named_before(s, n, places, table, at, text) {
                 return ending(Turn::Refused(NAME_AGAIN, at));
             }

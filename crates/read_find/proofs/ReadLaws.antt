@@ -109,7 +109,7 @@ module _ (s : List ℕ) (g : ℕ) where
   stands-text x there =
       let a = body-accepted s (there .count) (there .run) in
       let m = a .each g (there .below) in
-      let t = group-there s g (groupPlace s g) (m .text) (m .ctabs) (m .cntts) (a .within g (there .below)) (m .sound) in
+      let t = group-there s g (groupPlace s g) (m .edition) (m .text) (m .ctabs) (m .cntts) (a .within g (there .below)) (m .sound) in
       rw (← (there .stands)) (rw (m .sound, standingAt) (refl, t .0))
 
   -- the part that a standing names is the text

@@ -7,14 +7,15 @@ use mathlib.Core.List.{List}
 use lib.Dec.{leb}
 use lib.ListN.{length}
 use borrow.Author.Tests.{le-leb, lt-leb, leb-false}
-use Rattle.layout.specs.Ranges.{firstEdition}
 use Rattle.layout.specs.Answers.{Answer, refused, granted, afterRun}
-use Rattle.layout.specs.Group.{ctabOf}
+use Rattle.layout.specs.Group.{ctabPlace, ctabOf}
 use Rattle.layout.specs.Body.{bodyRun}
 use Rattle.layout.specs.Asked.{Row, standing, ofGroup, rowOf, rowIn, ofChannel, ofRecord, channelFound}
 use Rattle.layout.specs.declared.turn.Run.{Run}
 use Rattle.layout.specs.declared.turn.Run.the-variants.{Stopped, Ended}
 use Rattle.layout.specs.declared.answer.Standing.{Standing}
+use Rattle.layout.proofs.Editions.{size-least}
+use Rattle.layout.proofs.Ctabs.{place-before}
 use Rattle.read_find.specs.declared.Search.the-variants.{Refused, Missing}
 use Rattle.read_find.specs.declared.row.Sought.the-variants.{Refused as No, At}
 use Rattle.read_find.specs.Find.{groupLocated}
@@ -32,7 +33,7 @@ module _ (s : List ℕ) (g channel : ℕ) where
   unfolding channelFound sought
   row-missing h = rw (of-missing s g (ofChannel s (standing s g) channel (λ row. granted row)) h)
 
-  module _ (x : Standing) (there : There s g x) (i : ℕ) (e : i ≡ ctabOf firstEdition s (x .ctabs) (x .records) channel) where
+  module _ (x : Standing) (there : There s g x) (i : ℕ) (e : i ≡ ctabOf (x .edition) s (x .ctabs) (x .records) channel) where
     asked : channelFound s g channel ≡ cond (leb (x .records) i) (refused 15 0) (granted (rowOf x i))
     unfolding channelFound ofChannel rowIn
     asked = of-found s g _ x there ∙ rw (there .stands, e)
@@ -41,7 +42,7 @@ module _ (s : List ℕ) (g channel : ℕ) where
     unfolding sought
     row-none h = let q : channelFound s g channel ≡ refused 15 0 = asked ∙ rw (le-leb (x .records) i h) in rw q
 
-    pub row-there : i < x .records → At i (x .ctabs + 35 * i + 8) ≡ sought (channelFound s g channel)
+    pub row-there : i < x .records → At i (ctabPlace (x .edition) (x .ctabs) i + 8) ≡ sought (channelFound s g channel)
     unfolding sought
     row-there h = let q : channelFound s g channel ≡ granted (rowOf x i) = asked ∙ rw (lt-leb (x .records) i h) in rw q
 
@@ -100,7 +101,13 @@ module _ (s : List ℕ) (g channel : ℕ) where
       there n e false true u v q = absurd (let z : _≡_ {A = ℕ} 0 1 = cc in omega arith)
       there n e false false u v q =
           let y : found .at ≡ at = cc in
-          omega (arith, y, standing-within s n g e (leb-false n g u) .ctabs, leb-false (standing s g .records) (rowIn s (standing s g) channel) v)
+          omega (
+            arith,
+            y,
+            standing-within s n g e (leb-false n g u) .ctabs,
+            size-least (standing s g .edition),
+            place-before (standing s g .edition) (standing s g .ctabs) (rowIn s (standing s g) channel) (standing s g .records) (leb-false (standing s g .records) (rowIn s (standing s g) channel) v),
+          )
 
       go : (r : Run) → bodyRun s ≡ r → sought (afterRun r (λ n. cond (leb n g) (refused 16 0) (cond lacks (refused 15 0) (granted found)))) ≡ At i at → at + 27 ≤ length s
       go (Stopped a b) e q = absurd (let z : _≡_ {A = ℕ} 0 1 = cc in omega arith)

@@ -8,15 +8,17 @@ ghost use lib.ListN.{length, drop};
 ghost use Rattle.layout.specs.Bytes.{word};
 ghost use Rattle.layout.specs.Group.{groupAt};
 ghost use Rattle.layout.specs.Asked.{standingAt};
+ghost use Rattle.layout.specs.declared.edition.Edition.the-variants.{First};
 ghost use Rattle.layout.specs.declared.turn.Judged.the-variants.{Sound};
 ghost use Rattle.read_met.specs.Before.{Places};
 ghost use Rattle.read_body.specs.Known.{Insides};
 ghost use Rattle.read_find.specs.Find.{numbered, groupLocated, partLocated};
 use layout::answer::Standing;
+use layout::edition::Edition;
 use layout::limit::GROUPS;
-use layout::size::CTAB_STRIDE;
 use layout::turn::Run;
 use read_body::survey::read_groups;
+use read_record::edition::ctab_place;
 
 // What looking for a group comes to.
 pub enum Search {
@@ -30,20 +32,21 @@ pub enum Search {
 
 // Where the parts of the group at `at` stand, which has so many Ctabs and Cntts.
 fn standing_at(s: &[u8], at: usize, records: u16, seconds: u16) -> Standing
-    requires { ⌜ (at ≤ length (now s)) × (groupAt (drop at (now s)) ≡ Sound (word (now s) (at + 12)) records seconds) ⌝ }
+    requires { ⌜ (at ≤ length (now s)) × (groupAt (drop at (now s)) ≡ Sound First (word (now s) (at + 12)) records seconds) ⌝ }
     ensures { λ r. ⌜ r ≡ standingAt (now (s .entry)) at (groupAt (drop at (now (s .entry)))) ⌝ }
 {
     let length = read_bytes::word_at(s, at + 12);
     let ctabs = at + 16 + length;
     let n = records as usize;
     Standing {
+        edition: Edition::First,
         at: at,
         size: 8 + read_bytes::word_at(s, at + 4),
         text: at + 16,
         length: length,
         ctabs: ctabs,
         records: n,
-        cntts: ctabs + CTAB_STRIDE * n,
+        cntts: ctab_place(Edition::First, s, ctabs, n),
         seconds: seconds as usize,
     }
 }

@@ -10,6 +10,7 @@ use layout::answer::Counted;
 use layout::answer::Grouped;
 use layout::answer::Named;
 use layout::answer::Standing;
+use layout::edition::Edition;
 use layout::record::SourceChannel;
 use layout::refusal::BAD_NUMBER;
 use layout::refusal::NOT_THERE;
@@ -58,6 +59,7 @@ fn nowhere() -> Standing
     ensures { λ r. ⌜ r ≡ nothing ⌝ }
 {
     Standing {
+        edition: Edition::First,
         at: 0,
         size: 0,
         text: 0,

@@ -1,17 +1,17 @@
 // The record of a source channel in a group (document 01, "Numbers of refusal": after the body, 16 for numbers, then 15).
 ghost use mathlib.Core.Path.{_≡_};
-ghost use Prim.Native.Nat.{_+_, _*_, _≤_};
+ghost use Prim.Native.Nat.{_≤_};
 ghost use lib.ListN.{length};
-ghost use Rattle.layout.specs.Ranges.{firstEdition};
-ghost use Rattle.layout.specs.Group.{ctabOf};
+ghost use Rattle.layout.specs.Group.{ctabPlace, ctabOf};
 ghost use Rattle.layout.specs.Asked.{channelFound};
 ghost use Rattle.read_find.specs.Row.{sought};
 use crate::Search;
 use crate::find_group;
+use layout::edition::Edition;
 use layout::record::SourceChannel;
 use layout::refusal::BAD_NUMBER;
 use layout::refusal::NOT_THERE;
-use layout::size::CTAB_STRIDE;
+use read_record::edition::ctab_place;
 
 // What looking for the record of a source channel comes to.
 pub enum Sought {
@@ -21,14 +21,14 @@ pub enum Sought {
     At(usize, usize),
 }
 
-// The number of the first of n Ctabs from p on that has this source channel, or n where none has.
-fn find_row(s: &[u8], p: usize, n: usize, channel: u8) -> usize
-    requires { ⌜ p + 35 * n ≤ length (now s) ⌝ }
-    ensures { λ r. ⌜ r ≡ ctabOf firstEdition (now (s .entry)) p n channel ⌝ }
+// The number of the first of n Ctabs of an edition from p on that has this source channel, or n where none has.
+fn find_row(edition: Edition, s: &[u8], p: usize, n: usize, channel: u8) -> usize
+    requires { ⌜ ctabPlace edition p n ≤ length (now s) ⌝ }
+    ensures { λ r. ⌜ r ≡ ctabOf edition (now (s .entry)) p n channel ⌝ }
 {
     let mut i: usize = 0;
     while i < n {
-        if s[p + CTAB_STRIDE * i + 8] == channel {
+        if s[ctab_place(edition, s, p, i) + 8] == channel {
             return i;
         }
         i += 1;
@@ -44,11 +44,12 @@ pub fn find_record(s: &[u8], group: usize, channel: SourceChannel) -> Sought
         Search::Refused(number, place) => Sought::Refused(number, place),
         Search::Missing => Sought::Refused(BAD_NUMBER, 0),
         Search::Found(_, x) => {
-            let row = find_row(s, x.ctabs, x.records, channel.0);
+            let edition = x.edition;
+            let row = find_row(edition, s, x.ctabs, x.records, channel.0);
             if x.records <= row {
                 return Sought::Refused(NOT_THERE, 0);
             }
-            Sought::At(row, x.ctabs + CTAB_STRIDE * row + 8)
+            Sought::At(row, ctab_place(edition, s, x.ctabs, row) + 8)
         }
     }
 }

@@ -2,8 +2,8 @@
 ghost use mathlib.Core.Path.{_≡_};
 ghost use Prim.Native.Nat.{_+_, _*_, _≤_};
 ghost use lib.ListN.{length};
-ghost use Rattle.layout.specs.Ranges.{firstEdition};
-ghost use Rattle.layout.specs.Group.{ctabChannel, cnttChannel, cnttTurn, cnttsOf};
+ghost use Rattle.layout.specs.declared.edition.Edition.the-variants.{First};
+ghost use Rattle.layout.specs.Group.{ctabPlace, ctabChannel, cnttChannel, cnttTurn, cnttsOf};
 ghost use Rattle.read_group.specs.Homes.{Homes};
 ghost use Rattle.read_group.specs.Order.{lastHome, orderFault};
 use layout::limit::CHANNELS;
@@ -45,8 +45,8 @@ fn cntt_turn(
     seen: &[usize; CHANNELS],
     last: usize,
 ) -> Turn
-    requires { ⌜ (p + 35 * n + 10 * j ≤ length (now c)) × (Homes (ctabChannel firstEdition (now c) p) n (now homes) × (Homes (cnttChannel (now c) (p + 35 * n)) j (now seen) × (last ≡ lastHome (now c) p n j))) ⌝ }
-    ensures { λ r. ⌜ r ≡ cnttTurn (now (c .entry)) p n (p + 35 * n) j ⌝ }
+    requires { ⌜ (ctabPlace First p n + 10 * j ≤ length (now c)) × (Homes (ctabChannel First (now c) p) n (now homes) × (Homes (cnttChannel (now c) (ctabPlace First p n)) j (now seen) × (last ≡ lastHome (now c) p n j))) ⌝ }
+    ensures { λ r. ⌜ r ≡ cnttTurn (now (c .entry)) p n (ctabPlace First p n) j ⌝ }
 {
     let at = p + CTAB_STRIDE * n + CNTT_STRIDE * j;
     if at == c.len() {
@@ -63,7 +63,7 @@ fn cntt_turn(
     if 15 < channel {
         return Turn::Refused(OUT_OF_RANGE, at + 8);
     }
-    if !read_record::is_cntt_value(read_bytes::byte(c, at + 9)) {
+    if !read_ranges::is_cntt_value(read_bytes::byte(c, at + 9)) {
         return Turn::Refused(OUT_OF_RANGE, at + 9);
     }
     let fault = order_fault(homes[channel], seen[channel], last);
@@ -75,7 +75,7 @@ fn cntt_turn(
 
 // The Cntts after n Ctabs from p on.
 pub fn read_cntts(c: &[u8], p: usize, n: usize, homes: &[usize; CHANNELS]) -> Run
-    requires { ⌜ (p + 35 * n ≤ length (now c)) × Homes (ctabChannel firstEdition (now c) p) n (now homes) ⌝ }
+    requires { ⌜ (ctabPlace First p n ≤ length (now c)) × Homes (ctabChannel First (now c) p) n (now homes) ⌝ }
     ensures { λ r. ⌜ r ≡ cnttsOf (now (c .entry)) p n ⌝ }
 {
     let mut seen: [usize; CHANNELS] = [0; CHANNELS];

@@ -2,20 +2,21 @@
 ghost use mathlib.Core.Path.{_≡_};
 ghost use Prim.Native.Nat.{_+_, _*_, _≤_};
 ghost use lib.ListN.{length};
-ghost use Rattle.layout.specs.Ranges.{firstEdition};
-ghost use Rattle.layout.specs.Group.{ctabsOver, ctabChannel, ctabTurn};
+ghost use Rattle.layout.specs.Group.{ctabsOver, ctabPlace, ctabChannel, ctabTurn};
 ghost use Rattle.read_group.specs.Homes.{Homes};
 ghost use Rattle.read_group.specs.Read.{CtabsRead};
+use layout::edition::Edition;
 use layout::limit::CHANNELS;
 use layout::refusal::BAD_SIZE;
 use layout::refusal::CHANNEL_AGAIN;
 use layout::refusal::OUT_OF_RANGE;
-use layout::size::CTAB_STRIDE;
-use layout::size::RECORD;
 use layout::tag::CNTT;
-use layout::tag::CTAB;
 use layout::turn::Run;
 use layout::turn::Turn;
+use read_ranges::first_out;
+use read_record::edition::ctab_place;
+use read_record::edition::size_of;
+use read_record::edition::tag_of;
 
 // The run, and for each source channel 0, or one more than the number of its Ctab.
 pub struct Ctabs {
@@ -37,24 +38,25 @@ fn is_over(c: &[u8], at: usize) -> bool
     read_bytes::is_tagged(c, at, CNTT)
 }
 
-// Ctab number n of the run that begins at p.
-fn ctab_turn(c: &[u8], p: usize, n: usize, homes: &[usize; CHANNELS]) -> Turn
-    requires { ⌜ (p + 35 * n ≤ length (now c)) × Homes (ctabChannel firstEdition (now c) p) n (now homes) ⌝ }
-    ensures { λ r. ⌜ r ≡ ctabTurn firstEdition (now (c .entry)) p n ⌝ }
+// Ctab number n of the run of an edition that begins at p.
+fn ctab_turn(edition: Edition, c: &[u8], p: usize, n: usize, homes: &[usize; CHANNELS]) -> Turn
+    requires { ⌜ (ctabPlace edition p n ≤ length (now c)) × Homes (ctabChannel edition (now c) p) n (now homes) ⌝ }
+    ensures { λ r. ⌜ r ≡ ctabTurn edition (now (c .entry)) p n ⌝ }
 {
-    let at = p + CTAB_STRIDE * n;
+    let size = size_of(edition);
+    let at = ctab_place(edition, c, p, n);
     if is_over(c, at) {
         return Turn::Done;
     }
-    let h = read_bytes::head_fault(c, at, CTAB);
+    let h = read_bytes::head_fault(c, at, tag_of(edition));
     if h != 0 {
         return Turn::Refused(h, at);
     }
-    if read_bytes::word_at(c, at + 4) != RECORD {
+    if read_bytes::word_at(c, at + 4) != size {
         return Turn::Refused(BAD_SIZE, at);
     }
-    let k = read_record::first_out(c, at + 8, RECORD);
-    if k < RECORD {
+    let k = first_out(edition, c, at + 8, size);
+    if k < size {
         return Turn::Refused(OUT_OF_RANGE, at + 8 + k);
     }
     let channel = read_bytes::byte(c, at + 8);
@@ -64,15 +66,15 @@ fn ctab_turn(c: &[u8], p: usize, n: usize, homes: &[usize; CHANNELS]) -> Turn
     Turn::More
 }
 
-// The Ctabs from p on.
-pub fn read_ctabs(c: &[u8], p: usize) -> Ctabs
+// The Ctabs of an edition from p on.
+pub fn read_ctabs(edition: Edition, c: &[u8], p: usize) -> Ctabs
     requires { ⌜ p ≤ length (now c) ⌝ }
-    ensures { λ r. ⌜ CtabsRead (now (c .entry)) p r ⌝ }
+    ensures { λ r. ⌜ CtabsRead edition (now (c .entry)) p r ⌝ }
 {
     let mut homes: [usize; CHANNELS] = [0; CHANNELS];
     let mut n: usize = 0;
     loop {
-        match ctab_turn(c, p, n, &homes) {
+        match ctab_turn(edition, c, p, n, &homes) {
             Turn::Refused(number, place) => {
                 return Ctabs {
                     run: Run::Stopped(number, place),
@@ -87,7 +89,7 @@ pub fn read_ctabs(c: &[u8], p: usize) -> Ctabs
             }
             Turn::More => {}
         }
-        let channel = read_bytes::byte(c, p + CTAB_STRIDE * n + 8);
+        let channel = read_bytes::byte(c, ctab_place(edition, c, p, n) + 8);
         homes[channel] = n + 1;
         n += 1;
     }

@@ -6,6 +6,7 @@ ghost use mathlib.Core.Path.{_≡_};
 ghost use Rattle.layout.specs.Group.{contents, groupAt};
 use crate::cntts::read_cntts;
 use crate::ctabs::read_ctabs;
+use layout::edition::Edition;
 use layout::refusal::BAD_TAG;
 use layout::refusal::BAD_TEXT;
 use layout::tag::CSEG;
@@ -26,14 +27,14 @@ pub fn judge_contents(c: &[u8]) -> Judged
     if !read_names::is_sound_text(&c[8..p]) {
         return Judged::Unsound(BAD_TEXT, 0);
     }
-    let read = read_ctabs(c, p);
+    let read = read_ctabs(Edition::First, c, p);
     let homes = read.homes;
     let run = read.run;
     match run {
         Run::Stopped(number, place) => Judged::Unsound(number, place),
         Run::Ended(n) => match read_cntts(c, p, n, &homes) {
             Run::Stopped(number, place) => Judged::Unsound(number, place),
-            Run::Ended(m) => Judged::Sound(text, n, m),
+            Run::Ended(m) => Judged::Sound(Edition::First, text, n, m),
         },
     }
 }
@@ -53,6 +54,6 @@ pub fn judge_group(p: &[u8]) -> Judged
     let end = 8 + length;
     match judge_contents(&p[8..end]) {
         Judged::Unsound(number, place) => Judged::Unsound(number, 8 + place),
-        Judged::Sound(text, n, m) => Judged::Sound(text, n, m),
+        Judged::Sound(edition, text, n, m) => Judged::Sound(edition, text, n, m),
     }
 }

@@ -31,7 +31,7 @@ rest-kinds (b ∷ s) = (omega arith, tt)
 listed-kinds : (p : List ℕ) (v : Judged) → groupAt p ≡ v → Kinds (listed p v)
 unfolding listed
 listed-kinds p (Unsound number place) e = (refusal-most p number place e, tt)
-listed-kinds p (Sound t n m) e = (omega arith, rest-kinds (drop (groupSize p) p))
+listed-kinds p (Sound ed t n m) e = (omega arith, rest-kinds (drop (groupSize p) p))
 
 judged-kinds : (p : List ℕ) → Kinds (judged p)
 unfolding judged

@@ -34,7 +34,7 @@ joined-rest (b ∷ s) = append-nil (b ∷ s)
 
 joined-listed : (p : List ℕ) (v : Judged) → joined (listed p v) ≡ p
 unfolding flatten listed
-joined-listed p (Sound t n m) = rw (joined-rest (drop (groupSize p) p), take-append-drop)
+joined-listed p (Sound ed t n m) = rw (joined-rest (drop (groupSize p) p), take-append-drop)
 joined-listed p (Unsound number place) = append-nil p
 
 joined-judged : (ps : List (List ℕ)) → joined (flatMap judged ps) ≡ flatten ps

@@ -5,6 +5,7 @@ use mathlib.Core.Bool.{false}
 use mathlib.Core.List.{List, [], _∷_, _++_, append-assoc, append-nil, flatMap}
 use lib.ListN.{length, take, drop}
 use lib.Seq.{take-length, take-append-seam, drop-append-seam}
+use Rattle.layout.specs.declared.edition.Edition.{Edition}
 use Rattle.layout.specs.declared.turn.Judged.the-variants.{Sound}
 use Rattle.layout.specs.Group.{groupSize, groupAt}
 use Rattle.layout.specs.Salvage.{cseg, front, pieces, rest, listed, judged, parts}
@@ -34,12 +35,12 @@ unfolding parts rest flatMap
 parts-piece p ys c o = rw (front-piece p ys c, pieces-piece p ys c (opens-apart p ys o), front-opens ys o, append-nil)
 
 -- a sound group g with CSEG nowhere but at its start, before any bytes that complete no CSEG begun in it
-pub parts-group : (g ys : List ℕ) (t n m : ℕ) → groupAt g ≡ Sound t n m → groupSize g ≡ length g → ((k : ℕ) → cseg (drop (suc k) g) ≡ false) → Apart g ys
+pub parts-group : (g ys : List ℕ) (ed : Edition) (t n m : ℕ) → groupAt g ≡ Sound ed t n m → groupSize g ≡ length g → ((k : ℕ) → cseg (drop (suc k) g) ≡ false) → Apart g ys
     → parts (g ++ ys) ≡ record { bytes = g; kind = 0 } ∷ parts ys
 unfolding parts rest flatMap judged listed
-parts-group g ys t n m v q o a =
+parts-group g ys ed t n m v q o a =
     let w : take (groupSize g) g ≡ g = rw q (take-length g) in
-    let e : groupAt (g ++ front ys) ≡ Sound t n m = rw w at (sound-own g (front ys) t n m v) in
-    let z : groupSize (g ++ front ys) ≡ length g = rw w at (size-own g (front ys) t n m v) ∙ q in
-    let p : Piece g = record { first = sound-cseg g t n m v; only = o } in
+    let e : groupAt (g ++ front ys) ≡ Sound ed t n m = rw w at (sound-own g (front ys) ed t n m v) in
+    let z : groupSize (g ++ front ys) ≡ length g = rw w at (size-own g (front ys) ed t n m v) ∙ q in
+    let p : Piece g = record { first = sound-cseg g ed t n m v; only = o } in
     rw (front-piece g ys p, pieces-piece g ys p a, e, listed, z, take-append-seam g (front ys), drop-append-seam g (front ys))

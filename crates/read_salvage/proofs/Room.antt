@@ -23,7 +23,7 @@ rest-one (b ∷ t) = omega arith
 listed-few : (p : List ℕ) (v : Judged) → groupAt p ≡ v → 4 ≤ length p → 4 * length (listed p v) ≤ length p
 unfolding listed
 listed-few p (Unsound number place) e h = omega arith
-listed-few p (Sound t n m) e h = omega (arith, rest-one (drop (groupSize p) p), size-some p t n m e, size-within p t n m e)
+listed-few p (Sound ed t n m) e h = omega (arith, rest-one (drop (groupSize p) p), size-some p ed t n m e, size-within p ed t n m e)
 
 judged-few : (p : List ℕ) → Piece p → 4 * length (judged p) ≤ length p
 unfolding judged

@@ -8,6 +8,7 @@ use mathlib.Core.Bool.{true, false}
 use mathlib.Core.List.{List, [], _∷_, _++_}
 use lib.ListN.{length, take, drop, length-drop, drop-of-length-le}
 use lib.Seq.{length-take-le, take-length, drop-length, drop-drop}
+use Rattle.layout.specs.declared.edition.Edition.{Edition}
 use Rattle.layout.specs.declared.turn.Judged.the-variants.{Unsound, Sound}
 use Rattle.layout.specs.Bytes.{word}
 use Rattle.layout.specs.Group.{groupSize, groupAt}
@@ -72,10 +73,10 @@ pub led-unsound : (p : List ℕ) (number place : ℕ) → 0 < length p → group
 unfolding judged listed rest
 led-unsound p number place h v = record { some = h; within = omega arith; is = rw (v, listed, take-length, drop-length) }
 
-pub led-sound : (p : List ℕ) (t n m l : ℕ) → groupAt p ≡ Sound t n m → l ≡ word p 4 → PieceLed p (8 + l) 0
+pub led-sound : (p : List ℕ) (ed : Edition) (t n m l : ℕ) → groupAt p ≡ Sound ed t n m → l ≡ word p 4 → PieceLed p (8 + l) 0
 unfolding judged listed groupSize
-led-sound p t n m l v q =
-    let h = sound-at p t n m v .long in
+led-sound p ed t n m l v q =
+    let h = sound-at p ed t n m v .long in
     record { some = omega arith; within = omega arith; is = rw (v, listed, ← q) }
 
 -- ---- the answers of `entry_at`

@@ -7,6 +7,7 @@ use mathlib.Core.List.{List, _++_}
 use lib.ListN.{length, take, drop, length-append, length-drop, take-append-drop, List·getD-append}
 use lib.Seq.{length-take-le, take-take, take-append-le, drop-append-le}
 use borrow.Author.Tests.{ne-eqb}
+use Rattle.layout.specs.declared.edition.Edition.{Edition}
 use Rattle.layout.specs.declared.turn.Judged.the-variants.{Sound}
 use Rattle.layout.specs.Bytes.{number, word, tagAt, tagged, CSEG}
 use Rattle.layout.specs.Group.{contents, payload, groupSize, behindHeader, groupAt}
@@ -17,37 +18,37 @@ use Rattle.layout.proofs.GroupSound.{group-sound-is}
 use Rattle.read_salvage.proofs.Cseg.{cseg-more}
 
 -- when a sound group stands at the start of p
-pub record SoundAt (p : List ℕ) (t n m : ℕ) : Type 0 where
+pub record SoundAt (p : List ℕ) (ed : Edition) (t n m : ℕ) : Type 0 where
   pub tag : cseg p ≡ true
   pub long : 8 + word p 4 ≤ length p
   pub some : word p 4 ≡ 0 → ⊥
-  pub inside : contents (payload p) ≡ Sound t n m
+  pub inside : contents (payload p) ≡ Sound ed t n m
 
 -- the verdict and those facts: either way
-pub sound-at : (p : List ℕ) (t n m : ℕ) → groupAt p ≡ Sound t n m → SoundAt p t n m
+pub sound-at : (p : List ℕ) (ed : Edition) (t n m : ℕ) → groupAt p ≡ Sound ed t n m → SoundAt p ed t n m
 unfolding cseg groupSize
-sound-at p t n m q =
-    let g = group-sound-is p t n m q in
+sound-at p ed t n m q =
+    let g = group-sound-is p ed t n m q in
     let h = head-sound p 0 CSEG (g .head) in
     record { tag = h .0; long = h .1; some = λ z. absurd (omega (arith, g .size)); inside = g .inside }
 
-pub at-sound : (p : List ℕ) (t n m : ℕ) → SoundAt p t n m → groupAt p ≡ Sound t n m
+pub at-sound : (p : List ℕ) (ed : Edition) (t n m : ℕ) → SoundAt p ed t n m → groupAt p ≡ Sound ed t n m
 unfolding groupAt behindHeader cseg
-at-sound p t n m h =
+at-sound p ed t n m h =
     let l = h .long in
     rw (fault-none p 0 CSEG (omega arith) (h .tag) l, ne-eqb (word p 4) 0 (h .some), h .inside, behindHeader)
 
-module _ (p : List ℕ) (t n m : ℕ) (v : groupAt p ≡ Sound t n m) where
+module _ (p : List ℕ) (ed : Edition) (t n m : ℕ) (v : groupAt p ≡ Sound ed t n m) where
   pub size-some : 8 < groupSize p
   unfolding groupSize
-  size-some = let h = sound-at p t n m v .some in omega arith
+  size-some = let h = sound-at p ed t n m v .some in omega arith
 
   pub size-within : groupSize p ≤ length p
   unfolding groupSize
-  size-within = sound-at p t n m v .long
+  size-within = sound-at p ed t n m v .long
 
   pub sound-cseg : cseg p ≡ true
-  sound-cseg = sound-at p t n m v .tag
+  sound-cseg = sound-at p ed t n m v .tag
 
 -- ---- a sound group is judged by its own bytes alone
 
@@ -81,20 +82,20 @@ module _ (p x : List ℕ) (l : 8 + word p 4 ≤ length p) where
       let h : 8 + word g 4 ≤ length g = rw (length-take-le k p l) (omega arith) in
       payload-more g x h ∙ sym (payload-more g (drop k p) h) ∙ rw (take-append-drop k p) refl
 
-module _ (p x : List ℕ) (t n m : ℕ) (v : groupAt p ≡ Sound t n m) where
+module _ (p x : List ℕ) (ed : Edition) (t n m : ℕ) (v : groupAt p ≡ Sound ed t n m) where
   -- whatever follows a sound group's own bytes, its size stays ..
   pub size-own : groupSize (take (groupSize p) p ++ x) ≡ groupSize p
   unfolding groupSize
-  size-own = rw (own-word p x (sound-at p t n m v .long))
+  size-own = rw (own-word p x (sound-at p ed t n m v .long))
 
   -- .. and so does the verdict
-  pub sound-own : groupAt (take (groupSize p) p ++ x) ≡ Sound t n m
+  pub sound-own : groupAt (take (groupSize p) p ++ x) ≡ Sound ed t n m
   unfolding groupSize
   sound-own =
-      let h = sound-at p t n m v in
+      let h = sound-at p ed t n m v in
       let k : ℕ = 8 + word p 4 in
       let w : word (take k p ++ x) 4 ≡ word p 4 = own-word p x (h .long) in
-      at-sound (take k p ++ x) t n m
+      at-sound (take k p ++ x) ed t n m
       (record {
         tag = cseg-more (take k p) x (cseg-take k p (omega arith) ∙ h .tag);
         long = rw (w, length-append, length-take-le k p (h .long)) (omega arith);

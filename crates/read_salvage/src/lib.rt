@@ -74,7 +74,7 @@ fn judge_piece(piece: &[u8]) -> Found
             size: piece.len(),
             kind: number as usize,
         },
-        Judged::Sound(text, n, m) => {
+        Judged::Sound(_, text, n, m) => {
             let size = 8 + read_bytes::word_at(piece, 4);
             Found {
                 size: size,

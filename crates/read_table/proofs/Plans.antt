@@ -1,7 +1,7 @@
 -- What a plan for reading a group's records says: one law for each way out. The records of a group that was found are those that stand where it says.
 use Prim.Native.Nat.{ℕ, _+_, _*_, _≤_, _<_}
 use native.Mathlib.Omega.{arith}
-use mathlib.Core.Path.{_≡_, sym, ap, _∙_}
+use mathlib.Core.Path.{_≡_, sym, ap, subst, _∙_}
 use mathlib.Core.Bool.{cond}
 use mathlib.Core.List.{List, []}
 use lib.Dec.{ltb}
@@ -12,7 +12,9 @@ use Rattle.layout.specs.declared.answer.Counted.{Counted}
 use Rattle.layout.specs.declared.answer.Standing.{Standing}
 use Rattle.layout.specs.Lists.{rows}
 use Rattle.layout.specs.Answers.{refused, granted, numberOf, placeOf, valueOr, countedAll}
-use Rattle.layout.specs.Group.{recordAt}
+use Rattle.layout.specs.declared.edition.Edition.{Edition}
+use Rattle.layout.specs.declared.edition.Edition.the-variants.{First}
+use Rattle.layout.specs.Group.{ctabPlace, recordAt}
 use Rattle.layout.specs.Body.{groupPlace, groupNo}
 use Rattle.layout.specs.Asked.{standingAt, standing, recordsRead}
 use Rattle.layout.proofs.Lists.{rows-length}
@@ -28,13 +30,13 @@ use Rattle.read_table.specs.Reading.{noReading, toldOf, planned, Reading
 
 -- the records that stand where a standing says
 abbrev standRecords : List ℕ → Standing → List Record
-standRecords s x = rows (recordAt s (x .ctabs) (x .cntts) (x .seconds)) 0 (x .records)
+standRecords s x = rows (recordAt (x .edition) s (x .ctabs) (x .cntts) (x .seconds)) 0 (x .records)
 
 pub found-records : (s : List ℕ) (g : ℕ) (x : Standing) → There s g x → groupNo s g .records ≡ standRecords s x
 unfolding groupNo standing standingAt
 found-records s g x there =
     let more = body-accepted s (there .count) (there .run) .each g (there .below) in
-    rw (← (there .stands)) (rw (more .sound, standingAt) (rw (more .sound) at (records-there s (groupPlace s g) (more .text) (more .ctabs) (more .cntts) (more .sound))))
+    rw (← (there .stands)) (rw (more .sound, standingAt) (rw (more .sound) at (records-there s (groupPlace s g) (more .edition) (more .text) (more .ctabs) (more .cntts) (more .sound))))
 
 -- ---- the ways out
 
@@ -59,7 +61,7 @@ module _ (s : List ℕ) (g room : ℕ) where
     unfolding recordsRead
     asked =
         let e = found-records s g x there in
-        let n = rows-length (recordAt s (x .ctabs) (x .cntts) (x .seconds)) 0 (x .records) in
+        let n = rows-length (recordAt (x .edition) s (x .ctabs) (x .cntts) (x .seconds)) 0 (x .records) in
         of-found s g _ x there ∙ rw e (rw n)
 
     pub read-short : room < x .records → recordsRead s g room ≡ refused 14 0
@@ -71,7 +73,14 @@ module _ (s : List ℕ) (g room : ℕ) where
     planned-all h =
         let q : recordsRead s g room ≡ granted (standRecords s x) = asked ∙ rw (le-ltb room (x .records) h) in
         let w = there-within s g x there in
-        record { number = rw q; place = rw q; records = rw q; fits = h; ctabs = w .ctabs; cntts = w .cntts }
+        record {
+          number = rw q;
+          place = rw q;
+          records = rw q (ap (λ (e : Edition). rows (recordAt e s (x .ctabs) (x .cntts) (x .seconds)) 0 (x .records)) (sym (w .edition)));
+          fits = h;
+          ctabs = subst (λ (e : Edition). ctabPlace e (x .ctabs) (x .records) ≤ length s) (sym (w .edition)) (w .ctabs);
+          cntts = w .cntts;
+        }
 
 -- ---- a plan carried out
 
@@ -87,5 +96,5 @@ told-answer s g room p r h e =
 
 -- the bounds that carrying it out needs
 module _ (s : List ℕ) (g room : ℕ) (p : Reading) (h : ReadingPlanned s g room p) (i : ℕ) (l : i < p .count) where
-  pub planned-within : (p .ctabs + 35 * i + 35 ≤ length s) × (p .cntts + 10 * p .seconds ≤ length s)
+  pub planned-within : (ctabPlace First (p .ctabs) (i + 1) ≤ length s) × (p .cntts + 10 * p .seconds ≤ length s)
   planned-within = (omega (arith, h .ctabs, l), h .cntts)

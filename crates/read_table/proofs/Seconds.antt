@@ -8,9 +8,10 @@ use lib.ListN.{getD, take, drop}
 use borrow.Author.Tests.{lt-ltb, le-ltb, eq-eqb, ne-eqb}
 use Rattle.layout.specs.declared.record.SecondTable.{SecondTable}
 use Rattle.layout.specs.declared.record.SecondTable.the-variants.{Absent, Value}
+use Rattle.layout.specs.declared.edition.Edition.the-variants.{First}
 use Rattle.layout.specs.Records.{recordOf}
 use Rattle.layout.specs.Scan.{first}
-use Rattle.layout.specs.Group.{ctabChannel, cnttChannel, cnttOf, secondOf, recordAt}
+use Rattle.layout.specs.Group.{ctabPlace, ctabChannel, cnttChannel, cnttOf, secondOf, recordAt}
 use Rattle.layout.proofs.Scans.{first-end, first-here, first-next}
 
 module _ (s : List ℕ) (q m channel : ℕ) where
@@ -39,8 +40,8 @@ module _ (s : List ℕ) (q m channel : ℕ) where
       sym (rw (f, le-ltb j m (omega arith)))
 
 -- the 26 bytes where they are lent, and the second table found for the first of them
-pub record-here : (s : List ℕ) (p q m i at : ℕ) (second : SecondTable) → at ≡ p + 35 * i + 8 → second ≡ secondOf s q m (getD s at 0)
-    → recordOf (take (at + 26 - at) (drop at s)) second ≡ recordAt s p q m i
+pub record-here : (s : List ℕ) (p q m i at : ℕ) (second : SecondTable) → at ≡ ctabPlace First p i + 8 → second ≡ secondOf s q m (getD s at 0)
+    → recordOf (take (at + 26 - at) (drop at s)) second ≡ recordAt First s p q m i
 unfolding recordAt ctabChannel
 record-here s p q m i at second e f =
     let z : at + 26 - at ≡ 26 = omega arith in

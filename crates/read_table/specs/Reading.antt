@@ -5,7 +5,8 @@ use mathlib.Core.List.{List, []}
 use lib.ListN.{length}
 use Rattle.layout.specs.Lists.{rows}
 use Rattle.layout.specs.Answers.{numberOf, placeOf, valueOr}
-use Rattle.layout.specs.Group.{recordAt}
+use Rattle.layout.specs.declared.edition.Edition.the-variants.{First}
+use Rattle.layout.specs.Group.{ctabPlace, recordAt}
 use Rattle.layout.specs.Asked.{recordsRead}
 use Rattle.layout.specs.declared.record.Record.{Record}
 use Rattle.layout.specs.declared.answer.Counted.{Counted}
@@ -21,7 +22,7 @@ toldOf r = record { number = r .number; place = r .place; count = r .count }
 
 -- the records that a plan names
 abbrev pub planned : List ℕ → Reading → ℕ → Record
-planned s r i = recordAt s (r .ctabs) (r .cntts) (r .seconds) i
+planned s r i = recordAt First s (r .ctabs) (r .cntts) (r .seconds) i
 
 -- refused, or accepted with so many records; each is read off the body where it stands; on refusal there is none
 pub record ReadingPlanned (s : List ℕ) (group room : ℕ) (r : Reading) : Type 0 where
@@ -29,5 +30,5 @@ pub record ReadingPlanned (s : List ℕ) (group room : ℕ) (r : Reading) : Type
   pub place : r .place ≡ placeOf (recordsRead s group room)
   pub records : valueOr [] (recordsRead s group room) ≡ rows (planned s r) 0 (r .count)
   pub fits : r .count ≤ room
-  pub ctabs : r .ctabs + 35 * r .count ≤ length s
+  pub ctabs : ctabPlace First (r .ctabs) (r .count) ≤ length s
   pub cntts : r .cntts + 10 * r .seconds ≤ length s

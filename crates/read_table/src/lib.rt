@@ -4,7 +4,8 @@ pub mod filled;
 ghost use mathlib.Core.Path.{_≡_};
 ghost use Prim.Native.Nat.{_+_, _*_, _≤_};
 ghost use lib.ListN.{length};
-ghost use Rattle.layout.specs.Group.{secondOf, recordAt};
+ghost use Rattle.layout.specs.declared.edition.Edition.the-variants.{First};
+ghost use Rattle.layout.specs.Group.{ctabPlace, secondOf, recordAt};
 ghost use Rattle.read_table.specs.Reading.{noReading, toldOf, ReadingPlanned};
 use layout::answer::Counted;
 use layout::record::Record;
@@ -81,8 +82,8 @@ fn second_at(s: &[u8], cntts: usize, seconds: usize, channel: u8) -> SecondTable
 
 // Record number i of a plan: bytes 0-25 of its Ctab where they stand, and its Cntt.
 pub fn record_at(s: &[u8], plan: Reading, i: usize) -> Record
-    requires { ⌜ (plan .ctabs + 35 * i + 35 ≤ length (now s)) × (plan .cntts + 10 * plan .seconds ≤ length (now s)) ⌝ }
-    ensures { λ r. ⌜ r ≡ recordAt (now (s .entry)) (plan .ctabs) (plan .cntts) (plan .seconds) i ⌝ }
+    requires { ⌜ (ctabPlace First (plan .ctabs) (i + 1) ≤ length (now s)) × (plan .cntts + 10 * plan .seconds ≤ length (now s)) ⌝ }
+    ensures { λ r. ⌜ r ≡ recordAt First (now (s .entry)) (plan .ctabs) (plan .cntts) (plan .seconds) i ⌝ }
 {
     let at = plan.ctabs + CTAB_STRIDE * i + 8;
     let second = second_at(s, plan.cntts, plan.seconds, s[at]);

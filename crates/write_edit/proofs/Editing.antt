@@ -8,7 +8,8 @@ use borrow.Rule.Slice.PartMut.{midOf, putMid}
 use Rattle.layout.specs.declared.answer.Answered.{Answered}
 use Rattle.layout.specs.declared.record.Record.{Record}
 use Rattle.layout.specs.Answers.{refused, granted, numberOf, placeOf, valueOr, answered}
-use Rattle.layout.specs.Ranges.{firstEdition, ranges, firstOut}
+use Rattle.layout.specs.declared.edition.Edition.the-variants.{First}
+use Rattle.layout.specs.Ranges.{firstOut}
 use Rattle.layout.specs.Records.{bytesOf, channelOf, fileBytes}
 use Rattle.layout.specs.Asked.{channelFound}
 use Rattle.layout.specs.Edit.{replaced, firstEdited, edited}
@@ -30,10 +31,10 @@ module _ (s : List ℕ) (at channel : ℕ) (r : Record) where
   unfolding editedAt
   at-other a q h = at-refused 16 0 a q (rw (ne-eqb (channelOf r) channel h))
 
-  module _ (h : channelOf r ≡ channel) (b : List ℕ) (e : b ≡ bytesOf r) (k : ℕ) (f : k ≡ firstOut ranges b 0 26) where
-    out-is : firstEdited firstEdition r ≡ k
+  module _ (h : channelOf r ≡ channel) (b : List ℕ) (e : b ≡ bytesOf r) (k : ℕ) (f : k ≡ firstOut First b 0 26) where
+    out-is : firstEdited r ≡ k
     unfolding firstEdited
-    out-is = sym (f ∙ ap (λ (x : List ℕ). firstOut ranges x 0 26) e)
+    out-is = sym (f ∙ ap (λ (x : List ℕ). firstOut First x 0 26) e)
 
     pub at-out : (a : Answered) → a ≡ told 9 k → k < 26 → EditedAt s at channel r a s
     unfolding editedAt

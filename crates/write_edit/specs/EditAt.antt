@@ -8,15 +8,15 @@ use Rattle.layout.specs.declared.answer.Answered.{Answered}
 use Rattle.layout.specs.declared.record.Record.{Record}
 use Rattle.layout.specs.Refusals.{outOfRange, badNumber}
 use Rattle.layout.specs.Answers.{Answer, refused, granted, valueOr, answered}
-use Rattle.layout.specs.Ranges.{firstEdition}
-use Rattle.layout.specs.Records.{channelOf, fileBytes}
+use Rattle.layout.specs.Editions.{held}
+use Rattle.layout.specs.Records.{channelOf, editionOf, fileBytes}
 use Rattle.layout.specs.Edit.{replaced, firstEdited}
 
 -- the record whose byte 0 stands at `at`: "an edit's source channel 16, then 9"
 unfoldable pub editedAt : List ℕ → ℕ → ℕ → Record → Answer (List ℕ)
 editedAt s at channel r =
     cond (not (eqb (channelOf r) channel)) (refused badNumber 0)
-    (cond (ltb (firstEdited firstEdition r) (firstEdition .held)) (refused outOfRange (firstEdited firstEdition r))
+    (cond (ltb (firstEdited r) (held (editionOf r))) (refused outOfRange (firstEdited r))
     (granted (replaced s at (fileBytes r))))
 
 -- the answer, and the body at exit

@@ -12,8 +12,9 @@ use layout::refusal::OUT_OF_RANGE;
 use layout::size::HELD;
 use read_find::row::Sought;
 use read_find::row::find_record;
-use read_record::first_out;
+use read_ranges::first_out;
 use read_record::held::bytes_of;
+use read_record::held::edition_of;
 use write_chunks::put::put_held;
 
 fn answer(number: u8, place: usize) -> Answered
@@ -35,7 +36,7 @@ fn edit_at(s: &mut [u8], at: usize, channel: SourceChannel, new: Record) -> Answ
         return answer(BAD_NUMBER, 0);
     }
     let b = bytes_of(new);
-    let k = first_out(&b, 0, HELD);
+    let k = first_out(edition_of(new), &b, 0, HELD);
     if k < HELD {
         return answer(OUT_OF_RANGE, k);
     }

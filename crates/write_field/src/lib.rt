@@ -5,9 +5,10 @@ use layout::record::Record;
 use layout::refusal::BAD_NUMBER;
 use layout::refusal::OUT_OF_RANGE;
 use layout::size::HELD;
+use read_ranges::is_out;
 use read_record::held::bytes_of;
+use read_record::held::edition_of;
 use read_record::held::record_of;
-use read_record::is_out;
 
 // The record with one byte set; the Cntt is kept.
 pub fn set_field(r: Record, index: usize, value: u8) -> Changed
@@ -20,7 +21,8 @@ pub fn set_field(r: Record, index: usize, value: u8) -> Changed
             held: r,
         };
     }
-    if is_out(index, value) {
+    // No byte of a record in memory is judged by the one before it.
+    if is_out(edition_of(r), index, 0, value) {
         return Changed {
             number: OUT_OF_RANGE,
             place: index,

@@ -11,7 +11,7 @@ use borrow.Author.Tests.{ltb-false}
 use Rattle.layout.specs.declared.record.Record.{Record}
 use Rattle.layout.specs.Records.{blank, channelOf, firstBad}
 use Rattle.layout.specs.Plays.{bit}
-use Rattle.layout.specs.Ranges.{firstEdition}
+use Rattle.layout.specs.declared.edition.Edition.the-variants.{First}
 use Rattle.layout.specs.Sdec.{soundText}
 use Rattle.layout.proofs.Texts.{text-most}
 use Rattle.write_plan.specs.declared.Checked.{Checked}
@@ -29,10 +29,10 @@ begun-most text lent count = go (ltb lent count) (soundText text) refl
 
 looked-most : (x : Checked) (i : ℕ) (r : Record) (k : ℕ) → x .length ≤ k → looked x i r .length ≤ k + 45
 unfolding looked refusedAt
-looked-most x i r k h = go (eqb (x .number) 0) (ltb (firstBad firstEdition r) 26) (bit (x .seen) (channelOf r))
+looked-most x i r k h = go (eqb (x .number) 0) (ltb (firstBad r) 26) (bit (x .seen) (channelOf r))
   where
     go : (a b d : Bool)
-        → cond (not a) x (cond b (refusedAt 9 (27 * i + firstBad firstEdition r)) (cond d (refusedAt 10 (27 * i))
+        → cond (not a) x (cond b (refusedAt 9 (27 * i + firstBad r)) (cond d (refusedAt 10 (27 * i))
         (record { number = 0; place = 0; records = x .records; length = x .length + chunksSize (r .second); seen = bitOr (x .seen) (2 ^ channelOf r) }))) .length ≤ k + 45
     go false b d = omega arith
     go true true d = omega arith

@@ -11,7 +11,7 @@ use Rattle.layout.specs.declared.record.Record.{Record}
 use Rattle.layout.specs.declared.record.SecondTable.{SecondTable}
 use Rattle.layout.specs.declared.record.SecondTable.the-variants.{Absent, Value}
 use Rattle.layout.specs.Plays.{bit}
-use Rattle.layout.specs.Ranges.{firstEdition}
+use Rattle.layout.specs.declared.edition.Edition.the-variants.{First}
 use Rattle.layout.specs.Records.{bytesOf, recordOf, channelOf, badByte, firstBad}
 use Rattle.layout.specs.Sdec.{soundText}
 use Rattle.layout.proofs.Records.{ranged, ranged-channel}
@@ -33,11 +33,11 @@ module _ (text : List ℕ) (lent count : ℕ) where
     begun-sound e = rw (le-ltb lent count h, e)
 
 -- a record with no bad byte has a source channel below sixteen
-pub channel-low : (r : Record) (k : ℕ) → k ≡ firstBad firstEdition r → 26 ≤ k → channelOf r < 16
+pub channel-low : (r : Record) (k : ℕ) → k ≡ firstBad r → 26 ≤ k → channelOf r < 16
 channel-low r k e h = ranged-channel r (ranged r (rw (← e) h))
 
 -- so a number of 64 bits has a bit for it
-pub channel-shift : (r : Record) (k : ℕ) → k ≡ firstBad firstEdition r → 26 ≤ k → channelOf r < 64
+pub channel-shift : (r : Record) (k : ℕ) → k ≡ firstBad r → 26 ≤ k → channelOf r < 64
 channel-shift r k e h = omega (arith, channel-low r k e h)
 
 -- a record's chunks are at most 45 bytes
@@ -56,7 +56,7 @@ module _ (x : Checked) (i : ℕ) (r : Record) where
   unfolding looked firstBad badByte channelOf bytesOf recordOf
   looked-held b y e q = q ∙ ap (λ (l : List ℕ). looked x i (recordOf l (r .second))) e
 
-  module _ (z : x .number ≡ 0) (k : ℕ) (e : k ≡ firstBad firstEdition r) where
+  module _ (z : x .number ≡ 0) (k : ℕ) (e : k ≡ firstBad r) where
     pub looked-bad : k < 26 → looked x i r ≡ refusedAt 9 (27 * i + k)
     unfolding looked
     looked-bad h = rw (eq-eqb (x .number) 0 z, ← e, lt-ltb k 26 h)

@@ -15,7 +15,7 @@ use Rattle.layout.specs.declared.turn.Run.the-variants.{Ended}
 use Rattle.layout.specs.Scan.{run}
 use Rattle.layout.specs.Bytes.{four, chunk}
 use Rattle.layout.specs.Answers.{refused, granted, afterRun}
-use Rattle.layout.specs.Ranges.{firstEdition}
+use Rattle.layout.specs.declared.edition.Edition.the-variants.{First}
 use Rattle.layout.specs.Records.{blank, channelOf}
 use Rattle.layout.specs.Sdec.{soundText}
 use Rattle.layout.specs.Write.{payloadBytes, groupBytes, recordTurn, recordsRun, groupFrom, written}
@@ -98,7 +98,7 @@ module _ (text : List ℕ) (table : List Record) (count room : ℕ) where
     looks = rw (begun-sound text (length table) count h f) (ap (λ (x : Checked). planned x room) (looked-take begins table count count (omega arith)))
 
     answers : written text table count room
-        ≡ afterRun (run (recordTurn firstEdition rs) 0 (length rs)) (λ n. cond (ltb room (length (groupBytes (groupFrom text table count)))) (refused 14 0) (granted (groupBytes (groupFrom text table count))))
+        ≡ afterRun (run (recordTurn rs) 0 (length rs)) (λ n. cond (ltb room (length (groupBytes (groupFrom text table count)))) (refused 14 0) (granted (groupBytes (groupFrom text table count))))
     unfolding written recordsRun
     answers = rw (le-ltb (length table) count h, f)
 
@@ -117,8 +117,8 @@ module _ (text : List ℕ) (table : List Record) (count room : ℕ) where
       size : ends .length ≡ length (groupBytes (groupFrom text table count))
       size = g .size ∙ (ap (λ (t : List Record). 16 + length text + sizes t) (take-all count rs (omega (arith, long))) ∙ sym (group-length text rs))
 
-      ended : run (recordTurn firstEdition rs) 0 (length rs) ≡ Ended count
-      ended = g .rest ∙ run-end (recordTurn firstEdition rs) count (length rs) long
+      ended : run (recordTurn rs) 0 (length rs) ≡ Ended count
+      ended = g .rest ∙ run-end (recordTurn rs) count (length rs) long
 
       whole : Says (planOf text table count room)
       unfolding afterRun

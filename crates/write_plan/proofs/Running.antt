@@ -17,7 +17,7 @@ use Rattle.layout.specs.declared.turn.Turn.the-variants.{Refused, More}
 use Rattle.layout.specs.declared.turn.Run.the-variants.{Stopped}
 use Rattle.layout.specs.Scan.{first, run}
 use Rattle.layout.specs.Plays.{bit}
-use Rattle.layout.specs.Ranges.{firstEdition}
+use Rattle.layout.specs.declared.edition.Edition.the-variants.{First}
 use Rattle.layout.specs.Records.{blank, channelOf, firstBad}
 use Rattle.layout.specs.Write.{recordOn, recordTurn}
 use Rattle.layout.proofs.Runs.{run-stop, run-more}
@@ -45,23 +45,23 @@ module _ (rs : List Record) (i : ℕ) where
   abbrev r : Record
   r = getD rs i blank
 
-  turn-bad : firstBad firstEdition r < 26 → recordTurn firstEdition rs i ≡ Refused 9 (27 * i + firstBad firstEdition r)
+  turn-bad : firstBad r < 26 → recordTurn rs i ≡ Refused 9 (27 * i + firstBad r)
   unfolding recordTurn
-  turn-bad h = rw (lt-ltb (firstBad firstEdition r) 26 h)
+  turn-bad h = rw (lt-ltb (firstBad r) 26 h)
 
-  turn-again : 26 ≤ firstBad firstEdition r → ltb (first (λ j. eqb (channelOf (getD rs j blank)) (channelOf r)) 0 i) i ≡ true → recordTurn firstEdition rs i ≡ Refused 10 (27 * i)
+  turn-again : 26 ≤ firstBad r → ltb (first (λ j. eqb (channelOf (getD rs j blank)) (channelOf r)) 0 i) i ≡ true → recordTurn rs i ≡ Refused 10 (27 * i)
   unfolding recordTurn recordOn
-  turn-again h e = rw (le-ltb (firstBad firstEdition r) 26 h, e)
+  turn-again h e = rw (le-ltb (firstBad r) 26 h, e)
 
-  turn-more : 26 ≤ firstBad firstEdition r → ltb (first (λ j. eqb (channelOf (getD rs j blank)) (channelOf r)) 0 i) i ≡ false → recordTurn firstEdition rs i ≡ More
+  turn-more : 26 ≤ firstBad r → ltb (first (λ j. eqb (channelOf (getD rs j blank)) (channelOf r)) 0 i) i ≡ false → recordTurn rs i ≡ More
   unfolding recordTurn recordOn
-  turn-more h e = rw (le-ltb (firstBad firstEdition r) 26 h, e)
+  turn-more h e = rw (le-ltb (firstBad r) 26 h, e)
 
 -- ---- what is so before record number i
 
 module _ (rs : List Record) where
   abbrev turn : ℕ → Turn
-  turn = recordTurn firstEdition rs
+  turn = recordTurn rs
 
   abbrev n : ℕ
   n = length rs
@@ -94,19 +94,19 @@ module _ (rs : List Record) where
     refused number place z t e = rw e (record { number = z; stopped = g .rest ∙ run-stop turn i n number place l t })
 
     step : Going start (i + 1) (looked x i here) ⊎ Halted (looked x i here)
-    step = go (decLt (firstBad firstEdition here) 26) (bit (x .seen) (channelOf here)) refl
+    step = go (decLt (firstBad here) 26) (bit (x .seen) (channelOf here)) refl
       where
-        go : Dec (firstBad firstEdition here < 26) → (b : Bool) → bit (x .seen) (channelOf here) ≡ b → Going start (i + 1) (looked x i here) ⊎ Halted (looked x i here)
-        go (yes a) b e = inr (refused 9 (27 * i + firstBad firstEdition here) (omega arith) (turn-bad rs i a) (looked-bad x i here (g .number) (firstBad firstEdition here) refl a))
+        go : Dec (firstBad here < 26) → (b : Bool) → bit (x .seen) (channelOf here) ≡ b → Going start (i + 1) (looked x i here) ⊎ Halted (looked x i here)
+        go (yes a) b e = inr (refused 9 (27 * i + firstBad here) (omega arith) (turn-bad rs i a) (looked-bad x i here (g .number) (firstBad here) refl a))
         go (no a) true e =
-            let h : 26 ≤ firstBad firstEdition here = omega arith in
-            let again = sym (g .seen .each (channelOf here) (channel-low here (firstBad firstEdition here) refl h)) ∙ e in
-            inr (refused 10 (27 * i) (omega arith) (turn-again rs i h again) (looked-again x i here (g .number) (firstBad firstEdition here) refl h e))
+            let h : 26 ≤ firstBad here = omega arith in
+            let again = sym (g .seen .each (channelOf here) (channel-low here (firstBad here) refl h)) ∙ e in
+            inr (refused 10 (27 * i) (omega arith) (turn-again rs i h again) (looked-again x i here (g .number) (firstBad here) refl h e))
         go (no a) false e =
-            let h : 26 ≤ firstBad firstEdition here = omega arith in
-            let low = channel-low here (firstBad firstEdition here) refl h in
+            let h : 26 ≤ firstBad here = omega arith in
+            let low = channel-low here (firstBad here) refl h in
             let fresh = sym (g .seen .each (channelOf here) low) ∙ e in
-            inl (rw (looked-on x i here (g .number) (firstBad firstEdition here) refl h (chunksSize (here .second)) (bitOr (x .seen) (2 ^ channelOf here)) e refl refl) (record {
+            inl (rw (looked-on x i here (g .number) (firstBad here) refl h (chunksSize (here .second)) (bitOr (x .seen) (2 ^ channelOf here)) e refl refl) (record {
               number = refl;
               records = g .records;
               seen = seen-next chan i (channelOf here) (x .seen) (g .seen) refl;

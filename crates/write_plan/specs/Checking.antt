@@ -12,8 +12,8 @@ use Rattle.layout.specs.declared.record.SecondTable.the-variants.{Absent, Value
 use Rattle.layout.specs.Bytes.{CSEG, Sdec, four, chunk}
 use Rattle.layout.specs.Refusals.{accepted, badText, outOfRange, channelAgain, noRoom, badNumber}
 use Rattle.layout.specs.Plays.{bit}
-use Rattle.layout.specs.Ranges.{firstEdition}
-use Rattle.layout.specs.Records.{blank, channelOf, firstBad}
+use Rattle.layout.specs.Editions.{size, held}
+use Rattle.layout.specs.Records.{blank, channelOf, editionOf, firstBad}
 use Rattle.layout.specs.Sdec.{soundText}
 use Rattle.write_plan.specs.declared.Checked.{Checked}
 use Rattle.write_plan.specs.declared.Plan.{Plan}
@@ -46,8 +46,8 @@ Looking x i = (i < recordsNever) × (x .length ≤ 271 + 45 * i)
 unfoldable pub looked : Checked → ℕ → Record → Checked
 looked x i r =
     cond (not (eqb (x .number) accepted)) x
-    (cond (ltb (firstBad firstEdition r) (firstEdition .held)) (refusedAt outOfRange (firstEdition .size * i + firstBad firstEdition r))
-    (cond (bit (x .seen) (channelOf r)) (refusedAt channelAgain (firstEdition .size * i))
+    (cond (ltb (firstBad r) (held (editionOf r))) (refusedAt outOfRange (size (editionOf r) * i + firstBad r))
+    (cond (bit (x .seen) (channelOf r)) (refusedAt channelAgain (size (editionOf r) * i))
     (record { number = accepted; place = 0; records = x .records; length = x .length + chunksSize (r .second); seen = bitOr (x .seen) (2 ^ channelOf r) })))
 
 -- the first n records looked at

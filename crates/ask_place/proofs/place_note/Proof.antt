@@ -7,7 +7,7 @@ use lib.Signed.{mag}
 use mir.Syntax.{w32}
 use mir.Val.{toZ, ofZ}
 use Rattle.layout.specs.Answers.{granted}
-use Rattle.layout.specs.Ranges.{ranges}
+use Rattle.layout.specs.Ranges.{ranges, commonRanges, setRanges}
 use Rattle.layout.specs.Records.{bytesOf}
 use Rattle.layout.specs.Place.{heard, placed}
 use Rattle.layout.proofs.Outs.{highs}
@@ -42,7 +42,7 @@ returns-3 c =
     c .refusal3 .ensures ∙ answers (placed-bad _ _ _ (omega arith) (omega arith) _ (b .first-bad .ensures) (c .before .if3 .taken))
 
 is-bypass-requires : tie.Need-is-bypass-requires
-unfolding bytesOf highs ranges
+unfolding bytesOf highs ranges commonRanges setRanges
 is-bypass-requires c κs =
     let b = c .before in
     omega (arith, in-its-range (b .before .before .before .args .r) 21 (rw (← b .first-bad .ensures) (c .if3 .left)) (omega arith))

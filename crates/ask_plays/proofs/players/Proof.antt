@@ -2,54 +2,66 @@
 use Prim.Native.Nat.{_-_, _≤_}
 use mathlib.Core.Path.{sym, _∙_}
 use native.Mathlib.Omega.{arith}
+use lib.ListN.{length}
 use borrow.Author.Tests.{not-true, not-false}
 use borrow.Author.Needs.{needs}
+use Rattle.layout.proofs.Ctabs.{row-fits}
 use Rattle.ask_plays.proofs.Filled.{Filled, filled-start, filled-room, filled-passed, filled-more, filled-end}
 use Rattle.ask_plays.proofs.players.Statement.{statement}
 use Rattle.ask_plays.proofs.players.Tie as tie
 
 abbrev Inv-loop : tie.InvT-loop
-Inv-loop s p n root kind channels₀ count₀ i₀ channels count i = (i ≤ n) × Filled s p root kind i count channels
+Inv-loop ed s p n root kind channels₀ count₀ i₀ channels count i = (i ≤ n) × Filled ed s p root kind i count channels
 
 abbrev μ-loop : tie.MeasureT-loop
-μ-loop s p n root kind channels₀ count₀ i₀ channels count i = n - i
+μ-loop ed s p n root kind channels₀ count₀ i₀ channels count i = n - i
 
 loop-holds : tie.Need-loop-holds Inv-loop μ-loop
-loop-holds c = (search needs, filled-start _ _ _ _)
+loop-holds c = (search needs, filled-start _ _ _ _ _)
 
-mul-at : tie.Need-mul-at Inv-loop μ-loop
-mul-at c = search needs
+ctab-place-requires : tie.Need-ctab-place-requires Inv-loop μ-loop
+ctab-place-requires c κs =
+    let a = c .before .before .before in
+    omega (arith, row-fits (a .args .edition) (a .args .p) (c .before .loop .i) (a .args .n) (length (a .args .s .now)) (c .loop-test .taken) (a .pre .0))
 
 add-at : tie.Need-add-at Inv-loop μ-loop
-add-at c = search needs
-
-add-at-2 : tie.Need-add-at-2 Inv-loop μ-loop
-add-at-2 c = search needs
+add-at c =
+    let l = c .before in
+    let a = l .before .before .before in
+    omega (arith, c .ctab-place .ensures, row-fits (a .args .edition) (a .args .p) (l .before .loop .i) (a .args .n) (length (a .args .s .now)) (l .loop-test .taken) (a .pre .0))
 
 add-i : tie.Need-add-i Inv-loop μ-loop
 add-i c = search needs
 
 is-playing-requires : tie.Need-is-playing-requires Inv-loop μ-loop
-is-playing-requires c κs = (omega arith, c .before .before .before .pre .1 .1)
+is-playing-requires c κs =
+    let l = c .before in
+    let a = l .before .before .before in
+    (omega (arith, c .ctab-place .ensures, row-fits (a .args .edition) (a .args .p) (l .before .loop .i) (a .args .n) (length (a .args .s .now)) (l .loop-test .taken) (a .pre .0)), a .pre .1 .1)
 
 loop-less : tie.Need-loop-less Inv-loop μ-loop
 loop-less c = search needs
 
 loop-again : tie.Need-loop-again Inv-loop μ-loop
 loop-again c =
-    let l = c .before .before .before .loop in
-    (omega arith, filled-passed _ _ _ _ _ _ _ (l .inv .1) (sym (c .before .is-playing .ensures) ∙ not-true _ (c .if1 .taken)))
+    let p = c .before .before in
+    let l = p .before .before .loop in
+    (omega arith, filled-passed _ _ _ _ _ _ _ _ (l .inv .1) (rw (p .ctab-place .ensures) at (sym (c .before .is-playing .ensures) ∙ not-true _ (c .if1 .taken))))
 
 shared-slice-read-t16 : tie.Need-shared-slice-read-t16 Inv-loop μ-loop
-shared-slice-read-t16 c = search needs
+shared-slice-read-t16 c =
+    let p = c .before .before .before in
+    let l = p .before in
+    let a = l .before .before .before in
+    omega (arith, p .ctab-place .ensures, row-fits (a .args .edition) (a .args .p) (l .before .loop .i) (a .args .n) (length (a .args .s .now)) (l .loop-test .taken) (a .pre .0))
 
 array-set-from-channels : tie.Need-array-set-from-channels Inv-loop μ-loop
-array-set-from-channels c = filled-room _ _ _ _ _ _ _ (c .before .before .before .before .loop .inv .1) (omega arith)
+array-set-from-channels c = filled-room _ _ _ _ _ _ _ _ (c .before .before .before .before .before .loop .inv .1) (omega arith)
 
 add-count : tie.Need-add-count Inv-loop μ-loop
 add-count c =
-    let l = c .before .before .before .before .loop in
-    let room = filled-room _ _ _ _ _ _ _ (l .inv .1) (omega arith) in
+    let l = c .before .before .before .before .before .loop in
+    let room = filled-room _ _ _ _ _ _ _ _ (l .inv .1) (omega arith) in
     omega (arith, room)
 
 loop-less-2 : tie.Need-loop-less-2 Inv-loop μ-loop
@@ -57,11 +69,12 @@ loop-less-2 c = search needs
 
 loop-again-2 : tie.Need-loop-again-2 Inv-loop μ-loop
 loop-again-2 c =
-    let l = c .before .before .before .before .loop in
-    (omega arith, filled-more _ _ _ _ _ _ _ (l .inv .1) (omega arith) (sym (c .before .before .is-playing .ensures) ∙ not-false _ (c .before .if1 .left)))
+    let p = c .before .before .before in
+    let l = p .before .before .loop in
+    (omega arith, rw (p .ctab-place .ensures) (filled-more _ _ _ _ _ _ _ _ (l .inv .1) (omega arith) (rw (p .ctab-place .ensures) at (sym (c .before .before .is-playing .ensures) ∙ not-false _ (c .before .if1 .left)))))
 
 returns : tie.Need-returns Inv-loop μ-loop
-returns c = filled-end _ _ _ _ _ _ _ _ (c .before .loop .inv .1) (omega arith)
+returns c = filled-end _ _ _ _ _ _ _ _ _ (c .before .loop .inv .1) (omega arith)
 
 pub players-spec : {M : Type 1} → statement M
 players-spec =
@@ -70,9 +83,8 @@ players-spec =
     Inv-loop
     μ-loop
     loop-holds
-    mul-at
+    ctab-place-requires
     add-at
-    add-at-2
     add-i
     is-playing-requires
     loop-less

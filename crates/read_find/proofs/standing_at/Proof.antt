@@ -2,6 +2,7 @@
 use Prim.Native.Nat.{_+_}
 use native.Mathlib.Omega.{arith}
 use Rattle.layout.specs.Bytes.{word}
+use Rattle.layout.specs.declared.edition.Edition.the-variants.{First}
 use Rattle.layout.proofs.Bodies.{group-there}
 use Rattle.read_find.proofs.FindLaws.{standing-is}
 use borrow.Author.Needs.{needs}
@@ -14,7 +15,7 @@ add-word-at c = search needs
 word-at-requires : tie.Need-word-at-requires
 word-at-requires c κs =
     let a = c .before in
-    let g = group-there (a .args .s .now) 0 (a .args .at) (word (a .args .s .now) (a .args .at + 12)) (a .args .records) (a .args .seconds) (a .pre .0) (a .pre .1) in
+    let g = group-there (a .args .s .now) 0 (a .args .at) First (word (a .args .s .now) (a .args .at + 12)) (a .args .records) (a .args .seconds) (a .pre .0) (a .pre .1) in
     omega (arith, g .1 .0, g .1 .1)
 
 add-ctabs : tie.Need-add-ctabs
@@ -29,29 +30,25 @@ add-word-at-2 c = search needs
 word-at-requires-2 : tie.Need-word-at-requires-2
 word-at-requires-2 c κs =
     let a = c .before .before in
-    let g = group-there (a .args .s .now) 0 (a .args .at) (word (a .args .s .now) (a .args .at + 12)) (a .args .records) (a .args .seconds) (a .pre .0) (a .pre .1) in
+    let g = group-there (a .args .s .now) 0 (a .args .at) First (word (a .args .s .now) (a .args .at + 12)) (a .args .records) (a .args .seconds) (a .pre .0) (a .pre .1) in
     omega (arith, g .1 .0, g .1 .1)
-
-add-t10 : tie.Need-add-t10
-add-t10 c = search needs
 
 add-t11 : tie.Need-add-t11
 add-t11 c = search needs
 
-mul-t12 : tie.Need-mul-t12
-mul-t12 c =
-    let a = c .before .before .before in
-    let g = group-there (a .args .s .now) 0 (a .args .at) (word (a .args .s .now) (a .args .at + 12)) (a .args .records) (a .args .seconds) (a .pre .0) (a .pre .1) in
-    omega (arith, g .1 .0, g .1 .1)
+add-t12 : tie.Need-add-t12
+add-t12 c = search needs
 
-add-t13 : tie.Need-add-t13
-add-t13 c =
+ctab-place-requires : tie.Need-ctab-place-requires
+ctab-place-requires c κs =
     let a = c .before .before .before in
-    let g = group-there (a .args .s .now) 0 (a .args .at) (word (a .args .s .now) (a .args .at + 12)) (a .args .records) (a .args .seconds) (a .pre .0) (a .pre .1) in
+    let g = group-there (a .args .s .now) 0 (a .args .at) First (word (a .args .s .now) (a .args .at + 12)) (a .args .records) (a .args .seconds) (a .pre .0) (a .pre .1) in
     omega (arith, g .1 .0, g .1 .1, c .before .word-at .ensures .0)
 
 returns : tie.Need-returns
-returns c = standing-is _ _ _ _ _ _ (c .before .before .before .pre .1) (c .before .word-at .ensures .0) (c .word-at2 .ensures .0)
+returns c =
+    let w = c .before in
+    rw (c .ctab-place .ensures) (standing-is _ _ _ _ _ _ (w .before .before .before .pre .1) (w .before .word-at .ensures .0) (w .word-at2 .ensures .0))
 
 pub standing-at-spec : {M : Type 1} → statement M
 standing-at-spec =
@@ -63,8 +60,7 @@ standing-at-spec =
     add-ctabs-2
     add-word-at-2
     word-at-requires-2
-    add-t10
     add-t11
-    mul-t12
-    add-t13
+    add-t12
+    ctab-place-requires
     returns)

@@ -43,8 +43,8 @@ judge-contents-requires c κs = search needs
 enum-known-number : tie.Need-enum-known-number
 enum-known-number c = search needs
 
-add-t17 : tie.Need-add-t17
-add-t17 c =
+add-t18 : tie.Need-add-t18
+add-t18 c =
     let j = c .before .before .before in
     let d = j .before .before .before in
     omega (
@@ -53,8 +53,8 @@ add-t17 c =
           (sym (j .judge-contents .ensures) ∙ c .before .number .given .1),
     )
 
-enum-known-text : tie.Need-enum-known-text
-enum-known-text c = search needs
+enum-known-edition : tie.Need-enum-known-edition
+enum-known-edition c = search needs
 
 returns-3 : tie.Need-returns-3
 returns-3 c =
@@ -67,8 +67,8 @@ returns-4 : tie.Need-returns-4
 returns-4 c =
     let j = c .before .before .before in
     let d = j .before .before .before in
-    sym (group-sound _ _ (d .before .before .head-fault .ensures) (d .before .if1 .left) _ (d .word-at .ensures .0) (j .before .before .if2 .left) _ _ _
-    (sym (j .judge-contents .ensures) ∙ c .before .text .given .1))
+    sym (group-sound _ _ (d .before .before .head-fault .ensures) (d .before .if1 .left) _ (d .word-at .ensures .0) (j .before .before .if2 .left) _ _ _ _
+    (sym (j .judge-contents .ensures) ∙ c .before .edition .given .1))
 
 pub judge-group-spec : {M : Type 1} → statement M
 judge-group-spec =
@@ -84,7 +84,7 @@ judge-group-spec =
     part-judge-contents-end
     judge-contents-requires
     enum-known-number
-    add-t17
-    enum-known-text
+    add-t18
+    enum-known-edition
     returns-3
     returns-4)

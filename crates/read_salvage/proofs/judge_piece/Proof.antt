@@ -20,7 +20,7 @@ enum-known-text : tie.Need-enum-known-text
 enum-known-text c = search needs
 
 word-at-requires : tie.Need-word-at-requires
-word-at-requires c κs = omega (arith, sound-at _ _ _ _ (sym (c .before .before .before .judge-group .ensures) ∙ c .before .text .given .1) .long)
+word-at-requires c κs = omega (arith, sound-at _ _ _ _ _ (sym (c .before .before .before .judge-group .ensures) ∙ c .before .text .given .1) .long)
 
 add-size : tie.Need-add-size
 add-size c = search needs
@@ -29,7 +29,7 @@ returns : tie.Need-returns
 returns c = led-unsound _ _ _ (search needs) (sym (c .before .before .before .judge-group .ensures) ∙ c .before .number .given .1)
 
 returns-2 : tie.Need-returns-2
-returns-2 c = led-sound _ _ _ _ _ (sym (c .before .before .before .before .judge-group .ensures) ∙ c .before .before .text .given .1) (c .word-at .ensures .0)
+returns-2 c = led-sound _ _ _ _ _ _ (sym (c .before .before .before .before .judge-group .ensures) ∙ c .before .before .text .given .1) (c .word-at .ensures .0)
 
 pub judge-piece-spec : {M : Type 1} → statement M
 judge-piece-spec =

@@ -17,11 +17,14 @@ returns c = at-other _ _ _ _ _ (c .answer .ensures) (c .before .if1 .taken)
 bytes-of-requires : tie.Need-bytes-of-requires
 bytes-of-requires c κs = search needs
 
+edition-of-requires : tie.Need-edition-of-requires
+edition-of-requires c κs = search needs
+
 slice-aggregate-first-out : tie.Need-slice-aggregate-first-out
 slice-aggregate-first-out c = search needs
 
 first-out-requires : tie.Need-first-out-requires
-first-out-requires c κs = search needs
+first-out-requires c κs = (rw (c .before .edition-of .ensures) (omega arith), search needs)
 
 answer-requires-2 : tie.Need-answer-requires-2
 answer-requires-2 c κs = search needs
@@ -29,7 +32,9 @@ answer-requires-2 c κs = search needs
 returns-2 : tie.Need-returns-2
 unfolding channelOf
 returns-2 c =
-    at-out _ _ _ _ (c .before .before .before .before .before .if1 .left) _ (c .before .before .before .before .bytes-of .ensures) _ (c .before .before .first-out .ensures) _ (c .answer2 .ensures) (omega (arith, c .before .if2 .taken))
+    let o = c .before .before in
+    let d = o .before .before in
+    at-out _ _ _ _ (d .before .before .if1 .left) _ (d .before .bytes-of .ensures) _ (rw (d .edition-of .ensures) at (o .first-out .ensures)) _ (c .answer2 .ensures) (omega (arith, c .before .if2 .taken))
 
 sub-put-held : tie.Need-sub-put-held
 sub-put-held c = search needs
@@ -56,8 +61,9 @@ returns-3 : tie.Need-returns-3
 unfolding channelOf
 returns-3 c =
     let e = c .before .before .before .before .before .before in
-    let start = c .before .before .before .before .before .before .before .before .before .before .before .before .before .before .before in
-    at-put _ _ _ _ (e .before .before .before .before .if1 .left) _ (e .before .before .before .bytes-of .ensures) _ (e .before .first-out .ensures) _ (c .before .before .before .put-held .last .0) (c .answer3 .ensures) (omega (arith, e .if2 .left)) (omega (arith, start .pre)) (record-stored _ _ _ _ (e .before .before .before .bytes-of .ensures) (c .before .before .before .put-held .ensures))
+    let d = e .before .before .before in
+    let start = c .before .before .before .before .before .before .before .before .before .before .before .before .before .before .before .before in
+    at-put _ _ _ _ (d .before .before .if1 .left) _ (d .before .bytes-of .ensures) _ (rw (d .edition-of .ensures) at (e .before .first-out .ensures)) _ (c .before .before .before .put-held .last .0) (c .answer3 .ensures) (omega (arith, e .if2 .left)) (omega (arith, start .pre)) (record-stored _ _ _ _ (d .before .bytes-of .ensures) (c .before .before .before .put-held .ensures))
 
 pub edit-at-spec : {M : Type 1} → statement M
 edit-at-spec =
@@ -66,6 +72,7 @@ edit-at-spec =
     answer-requires
     returns
     bytes-of-requires
+    edition-of-requires
     slice-aggregate-first-out
     first-out-requires
     answer-requires-2

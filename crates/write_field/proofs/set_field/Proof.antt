@@ -11,13 +11,16 @@ use Rattle.write_field.proofs.set_field.Tie as tie
 returns : tie.Need-returns
 returns c = sym (set-over _ _ _ (c .if1 .taken))
 
+edition-of-requires : tie.Need-edition-of-requires
+edition-of-requires c κs = search needs
+
 is-out-requires : tie.Need-is-out-requires
-is-out-requires c κs = search needs
+is-out-requires c κs = rw (c .edition-of .ensures) (omega arith)
 
 returns-2 : tie.Need-returns-2
 returns-2 c =
-    let a = c .before .before .before .args in
-    sym (set-out (a .r) (a .index) (a .value) (omega arith) (sym (c .before .is-out .ensures) ∙ c .if2 .taken))
+    let a = c .before .before .before .before .args in
+    sym (set-out (a .r) (a .index) (a .value) (omega arith) (sym (rw (c .before .before .edition-of .ensures) at (c .before .is-out .ensures)) ∙ c .if2 .taken))
 
 bytes-of-requires : tie.Need-bytes-of-requires
 bytes-of-requires c κs = search needs
@@ -30,22 +33,23 @@ slice-aggregate-record-of c = search needs
 
 record-of-requires : tie.Need-record-of-requires
 record-of-requires c κs =
-    let a = c .before .before .before .before .before .args in
+    let a = c .before .before .before .before .before .before .args in
     let b = c .before .bytes-of .result in
     omega (arith, length-set b (a .index) (a .value), ap length (c .before .bytes-of .ensures), bytes-length (a .r))
 
 returns-3 : tie.Need-returns-3
 returns-3 c =
-    let a = c .before .before .before .before .before .before .args in
+    let a = c .before .before .before .before .before .before .before .args in
     let f = c .before .before .before in
     ap (λ (held : Record). record { number = 0; place = 0; held = held }) (c .record-of .ensures)
-    ∙ sym (set-in (a .r) (a .index) (a .value) (omega arith) (c .before .before .bytes-of .result) (sym (f .before .is-out .ensures) ∙ f .if2 .left) (c .before .before .bytes-of .ensures))
+    ∙ sym (set-in (a .r) (a .index) (a .value) (omega arith) (c .before .before .bytes-of .result) (sym (rw (f .before .before .edition-of .ensures) at (f .before .is-out .ensures)) ∙ f .if2 .left) (c .before .before .bytes-of .ensures))
 
 pub set-field-spec : {M : Type 1} → statement M
 set-field-spec =
     tie.close
     (tie.spec
     returns
+    edition-of-requires
     is-out-requires
     returns-2
     bytes-of-requires

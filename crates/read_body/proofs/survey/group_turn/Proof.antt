@@ -104,7 +104,7 @@ is-named-before-requires c κs =
         a .pre .1 .1 .1 .0,
         (
           a .pre .1 .1 .1 .1,
-          text-is _ _ _ (f .head-fault .ensures) (w .before .before .if2 .left) (a .pre .1 .0) _ (w .word-at .ensures .0) _ _ _ (j .before .before .if4 .left)
+          text-is _ _ _ (f .head-fault .ensures) (w .before .before .if2 .left) (a .pre .1 .0) _ (w .word-at .ensures .0) _ _ _ _ (j .before .before .if4 .left)
               (sym (j .judge-contents .ensures) ∙ c .before .before .text .given .1),
         ),
       ),
@@ -120,7 +120,7 @@ returns-5 c =
     let f = w .before .before .before in
     let a = f .before .before .before in
     turned-again _ _ _ (a .pre .0) _ _ (f .before .if1 .left) _ (f .head-fault .ensures) (w .before .before .if2 .left) (omega arith) (a .pre .1 .0) _ (w .word-at .ensures .0) (j .before .before .if4 .left)
-    _ _ _ (sym (j .judge-contents .ensures) ∙ c .before .before .before .before .before .text .given .1) (rw (c .before .if5 .taken) at (c .before .before .is-named-before .ensures)) (c .ending6 .ensures)
+    _ _ _ _ (sym (j .judge-contents .ensures) ∙ c .before .before .before .before .before .text .given .1) (rw (c .before .if5 .taken) at (c .before .before .is-named-before .ensures)) (c .ending6 .ensures)
 
 returns-6 : tie.Need-returns-6
 returns-6 c =
@@ -138,7 +138,7 @@ returns-7 c =
     let f = w .before .before .before in
     let a = f .before .before .before in
     turned-more _ _ _ (a .pre .0) _ _ (f .before .if1 .left) _ (f .head-fault .ensures) (w .before .before .if2 .left) (omega arith) (a .pre .1 .0) _ (w .word-at .ensures .0) (j .before .before .if4 .left)
-    _ _ _ (sym (j .judge-contents .ensures) ∙ c .before .before .before .before .text .given .1) (rw (c .if5 .left) at (c .before .is-named-before .ensures)) refl refl refl
+    _ _ _ _ (sym (j .judge-contents .ensures) ∙ c .before .before .before .before .text .given .1) (rw (c .if5 .left) at (c .before .is-named-before .ensures)) refl refl refl
 
 pub group-turn-spec : {M : Type 1} → statement M
 group-turn-spec =

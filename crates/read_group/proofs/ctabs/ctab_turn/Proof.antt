@@ -1,33 +1,38 @@
 -- One law for each way out; a channel's home says whether an earlier Ctab has it.
 use mathlib.Core.Path.{sym, _∙_}
 use native.Mathlib.Omega.{arith}
-use Rattle.layout.specs.Group.{ctabTurn}
 use Rattle.layout.proofs.Heads.{head-within}
-use Rattle.layout.proofs.Ctabs.{ctab-over, ctab-head, ctab-size, ctab-out, ctab-last, channel-small}
+use Rattle.layout.proofs.Ctabs.{turn-at, ctab-over, ctab-head, ctab-size, ctab-out, ctab-last, channel-held}
+use Rattle.layout.proofs.Editions.{size-some}
 use Rattle.read_group.proofs.CtabHomes.{ctab-again, ctab-fresh}
 use borrow.Author.Needs.{needs}
 use Rattle.read_group.proofs.ctabs.ctab_turn.Statement.{statement}
 use Rattle.read_group.proofs.ctabs.ctab_turn.Tie as tie
 
-mul-at : tie.Need-mul-at
-mul-at c = search needs
+size-of-requires : tie.Need-size-of-requires
+size-of-requires c κs = search needs
 
-add-at : tie.Need-add-at
-add-at c = search needs
+ctab-place-requires : tie.Need-ctab-place-requires
+ctab-place-requires c κs = search needs
 
 is-over-requires : tie.Need-is-over-requires
 is-over-requires c κs = search needs
 
 returns : tie.Need-returns
-unfolding ctabTurn
-returns c = sym (ctab-over _ _ _ _ (sym (c .before .is-over .ensures) ∙ c .if1 .taken))
+returns c = turn-at _ _ _ _ _ _ (c .before .before .ctab-place .ensures) (ctab-over _ _ _ _ _ (sym (c .before .is-over .ensures) ∙ c .if1 .taken))
+
+tag-of-requires : tie.Need-tag-of-requires
+tag-of-requires c κs = search needs
 
 head-fault-requires : tie.Need-head-fault-requires
-head-fault-requires c κs = search needs
+head-fault-requires c κs = (search needs, c .tag-of .ensures .1)
 
 returns-2 : tie.Need-returns-2
-unfolding ctabTurn
-returns-2 c = sym (ctab-head _ _ _ _ (sym (c .before .before .before .is-over .ensures) ∙ c .before .before .if1 .left) _ (c .before .head-fault .ensures) (c .if2 .taken))
+returns-2 c =
+    let h = c .before in
+    let o = h .before .before in
+    turn-at _ _ _ _ _ _ (o .before .before .ctab-place .ensures)
+    (ctab-head _ _ _ _ _ (sym (o .before .is-over .ensures) ∙ o .if1 .left) _ _ (h .before .tag-of .ensures .0) (h .head-fault .ensures) (c .if2 .taken))
 
 add-word-at : tie.Need-add-word-at
 add-word-at c = search needs
@@ -36,75 +41,95 @@ word-at-requires : tie.Need-word-at-requires
 word-at-requires c κs = omega (arith, head-within _ _ _ _ (c .before .head-fault .ensures) (c .if2 .left))
 
 returns-3 : tie.Need-returns-3
-unfolding ctabTurn
 returns-3 c =
-    let d = c .before .before in
-    sym (ctab-size _ _ _ _ (sym (d .before .before .before .is-over .ensures) ∙ d .before .before .if1 .left) _ (d .before .head-fault .ensures) (d .if2 .left) (λ e. c .if3 .taken (c .before .word-at .ensures .0 ∙ e)))
+    let z = c .before .before in
+    let h = z .before in
+    let o = h .before .before in
+    turn-at _ _ _ _ _ _ (o .before .before .ctab-place .ensures)
+    (ctab-size _ _ _ _ _ (sym (o .before .is-over .ensures) ∙ o .if1 .left) _ _ (h .before .tag-of .ensures .0) (h .head-fault .ensures) (z .if2 .left) _ (o .before .before .before .size-of .ensures)
+    (λ e. c .if3 .taken (c .before .word-at .ensures .0 ∙ e)))
 
 add-first-out : tie.Need-add-first-out
 add-first-out c = search needs
 
 first-out-requires : tie.Need-first-out-requires
 first-out-requires c κs =
-    let d = c .before .before in
-    (omega arith, omega (arith, head-within _ _ _ _ (d .before .head-fault .ensures) (d .if2 .left), sym (c .before .word-at .ensures .0) ∙ c .if3 .left))
+    let z = c .before .before in
+    let o = z .before .before .before in
+    (omega (arith, o .before .before .before .size-of .ensures), omega (arith, head-within _ _ _ _ (z .before .head-fault .ensures) (z .if2 .left), sym (c .before .word-at .ensures .0) ∙ c .if3 .left))
 
-add-t13 : tie.Need-add-t13
-add-t13 c = search needs
+add-t15 : tie.Need-add-t15
+add-t15 c = search needs
 
-add-t14 : tie.Need-add-t14
-add-t14 c = search needs
+add-t16 : tie.Need-add-t16
+add-t16 c = search needs
 
 returns-4 : tie.Need-returns-4
-unfolding ctabTurn
 returns-4 c =
-    let e = c .before .before .before in
-    sym (ctab-out _ _ _ _ (sym (e .before .before .before .before .is-over .ensures) ∙ e .before .before .before .if1 .left) _ (e .before .before .head-fault .ensures) (e .before .if2 .left)
-    (sym (e .word-at .ensures .0) ∙ c .before .before .if3 .left) _ (c .before .first-out .ensures) (omega arith))
+    let l = c .before .before in
+    let z = l .before .before in
+    let h = z .before in
+    let o = h .before .before in
+    turn-at _ _ _ _ _ _ (o .before .before .ctab-place .ensures)
+    (ctab-out _ _ _ _ _ (sym (o .before .is-over .ensures) ∙ o .if1 .left) _ _ (h .before .tag-of .ensures .0) (h .head-fault .ensures) (z .if2 .left) _ (o .before .before .before .size-of .ensures)
+    (sym (l .before .word-at .ensures .0) ∙ l .if3 .left) _ (c .before .first-out .ensures) (omega arith))
 
 add-byte : tie.Need-add-byte
 add-byte c = search needs
 
 byte-requires : tie.Need-byte-requires
 byte-requires c κs =
-    let e = c .before .before .before in
-    omega (arith, head-within _ _ _ _ (e .before .before .head-fault .ensures) (e .before .if2 .left), sym (e .word-at .ensures .0) ∙ c .before .before .if3 .left)
+    let l = c .before .before in
+    let z = l .before .before in
+    let o = z .before .before .before in
+    omega (arith, head-within _ _ _ _ (z .before .head-fault .ensures) (z .if2 .left), sym (l .before .word-at .ensures .0) ∙ l .if3 .left, size-some (o .before .before .before .before .before .args .edition) _ (o .before .before .before .size-of .ensures))
 
 mul-if5 : tie.Need-mul-if5
 mul-if5 c = search needs
 
 element-copy-out-if5 : tie.Need-element-copy-out-if5
 element-copy-out-if5 c =
-    rw (c .byte .ensures .0) (channel-small _ _ (rw (c .before .before .first-out .ensures) at (c .before .if4 .left)))
+    let f = c .before .before in
+    let o = f .before .before .before .before .before .before in
+    rw (c .byte .ensures .0) (channel-held _ _ _ _ _ (o .before .before .before .size-of .ensures) (f .first-out .ensures) (c .before .if4 .left))
 
 returns-5 : tie.Need-returns-5
-unfolding ctabTurn
 returns-5 c =
     let b = c .before .before in
-    let e = b .before .before .before .before in
-    sym (ctab-last _ _ _ _ (sym (e .before .before .before .before .is-over .ensures) ∙ e .before .before .before .if1 .left) _ (e .before .before .head-fault .ensures) (e .before .if2 .left)
-    (sym (e .word-at .ensures .0) ∙ b .before .before .before .if3 .left) _ (b .before .before .first-out .ensures) (omega arith) _
-    (ctab-again _ _ _ _ _ _ (b .byte .ensures .0) (e .before .before .before .before .before .before .pre .1 .each _
-    (rw (b .byte .ensures .0) (channel-small _ _ (rw (b .before .before .first-out .ensures) at (b .before .if4 .left))))) (c .if5 .taken)))
+    let f = b .before .before in
+    let l = f .before in
+    let z = l .before .before in
+    let h = z .before in
+    let o = h .before .before in
+    turn-at _ _ _ _ _ _ (o .before .before .ctab-place .ensures)
+    (ctab-last _ _ _ _ _ (sym (o .before .is-over .ensures) ∙ o .if1 .left) _ _ (h .before .tag-of .ensures .0) (h .head-fault .ensures) (z .if2 .left) _ (o .before .before .before .size-of .ensures)
+    (sym (l .before .word-at .ensures .0) ∙ l .if3 .left) _ (f .first-out .ensures) (omega arith) _
+    (ctab-again _ _ _ _ _ _ _ (b .byte .ensures .0) (o .before .before .before .before .before .pre .1 .each _
+    (rw (b .byte .ensures .0) (channel-held _ _ _ _ _ (o .before .before .before .size-of .ensures) (f .first-out .ensures) (b .before .if4 .left)))) (c .if5 .taken)))
 
 returns-6 : tie.Need-returns-6
-unfolding ctabTurn
 returns-6 c =
     let b = c .before .before in
-    let e = b .before .before .before .before in
-    sym (ctab-last _ _ _ _ (sym (e .before .before .before .before .is-over .ensures) ∙ e .before .before .before .if1 .left) _ (e .before .before .head-fault .ensures) (e .before .if2 .left)
-    (sym (e .word-at .ensures .0) ∙ b .before .before .before .if3 .left) _ (b .before .before .first-out .ensures) (omega arith) _
-    (ctab-fresh _ _ _ _ _ _ (b .byte .ensures .0) (e .before .before .before .before .before .before .pre .1 .each _
-    (rw (b .byte .ensures .0) (channel-small _ _ (rw (b .before .before .first-out .ensures) at (b .before .if4 .left))))) (c .if5 .left)))
+    let f = b .before .before in
+    let l = f .before in
+    let z = l .before .before in
+    let h = z .before in
+    let o = h .before .before in
+    turn-at _ _ _ _ _ _ (o .before .before .ctab-place .ensures)
+    (ctab-last _ _ _ _ _ (sym (o .before .is-over .ensures) ∙ o .if1 .left) _ _ (h .before .tag-of .ensures .0) (h .head-fault .ensures) (z .if2 .left) _ (o .before .before .before .size-of .ensures)
+    (sym (l .before .word-at .ensures .0) ∙ l .if3 .left) _ (f .first-out .ensures) (omega arith) _
+    (ctab-fresh _ _ _ _ _ _ _ (b .byte .ensures .0) (o .before .before .before .before .before .pre .1 .each _
+    (rw (b .byte .ensures .0) (channel-held _ _ _ _ _ (o .before .before .before .size-of .ensures) (f .first-out .ensures) (b .before .if4 .left)))) (c .if5 .left)))
 
 pub ctab-turn-spec : {M : Type 1} → statement M
 ctab-turn-spec =
     tie.close
     (tie.spec
-    mul-at
-    add-at
+    size-of-requires
+    ctab-place-requires
     is-over-requires
     returns
+    tag-of-requires
     head-fault-requires
     returns-2
     add-word-at
@@ -112,8 +137,8 @@ ctab-turn-spec =
     returns-3
     add-first-out
     first-out-requires
-    add-t13
-    add-t14
+    add-t15
+    add-t16
     returns-4
     add-byte
     byte-requires

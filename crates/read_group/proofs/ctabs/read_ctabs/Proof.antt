@@ -4,10 +4,9 @@ use mathlib.Core.Path.{_≡_, refl, sym, _∙_}
 use native.Mathlib.Omega.{arith}
 use lib.ListN.{length}
 use Rattle.layout.specs.Scan.{run}
-use Rattle.layout.specs.Ranges.{firstEdition}
-use Rattle.layout.specs.Group.{ctabChannel, ctabTurn, ctabsOf}
+use Rattle.layout.specs.Group.{ctabPlace, ctabChannel, ctabTurn, ctabsOf}
 use Rattle.layout.proofs.Runs.{run-stop, run-done, run-more, not-ended}
-use Rattle.layout.proofs.Ctabs.{turn-more, ctab-fits, channel-small}
+use Rattle.layout.proofs.Ctabs.{turn-more, ctab-fits, ctab-byte, channel-small}
 use Rattle.read_group.specs.Homes.{Homes}
 use Rattle.read_group.proofs.HomeLaws.{homes-start}
 use Rattle.read_group.proofs.CtabHomes.{homes-more, ended-homes}
@@ -16,11 +15,11 @@ use Rattle.read_group.proofs.ctabs.read_ctabs.Statement.{statement}
 use Rattle.read_group.proofs.ctabs.read_ctabs.Tie as tie
 
 abbrev Inv-loop : tie.InvT-loop
-Inv-loop c p homes₀ n₀ homes n =
-    (p + 35 * n ≤ length c) × (Homes (ctabChannel firstEdition c p) n homes × (ctabsOf c p ≡ run (ctabTurn firstEdition c p) n (length c + 1)))
+Inv-loop ed c p homes₀ n₀ homes n =
+    (ctabPlace ed p n ≤ length c) × (Homes (ctabChannel ed c p) n homes × (ctabsOf ed c p ≡ run (ctabTurn ed c p) n (length c + 1)))
 
 abbrev μ-loop : tie.MeasureT-loop
-μ-loop c p homes₀ n₀ homes n = length c + 1 - n
+μ-loop ed c p homes₀ n₀ homes n = length c + 1 - n
 
 loop-holds : tie.Need-loop-holds Inv-loop μ-loop
 unfolding ctabsOf
@@ -43,22 +42,21 @@ enum-told c = search needs
 returns-2 : tie.Need-returns-2 Inv-loop μ-loop
 returns-2 c =
     let l = c .before .before .before .before .loop in
-    record { run = sym (l .inv .1 .1 ∙ run-done _ _ _ (omega arith) (sym (c .before .before .ctab-turn .ensures) ∙ c .enum-told .given .1)); homes = λ m e. ended-homes _ _ _ _ m (l .inv .0) (l .inv .1 .0) e }
+    record { run = sym (l .inv .1 .1 ∙ run-done _ _ _ (omega arith) (sym (c .before .before .ctab-turn .ensures) ∙ c .enum-told .given .1)); homes = λ m e. ended-homes _ _ _ _ _ m (l .inv .0) (l .inv .1 .0) e }
 
 enum-told-2 : tie.Need-enum-told-2 Inv-loop μ-loop
 enum-told-2 c = search needs
 
-mul-byte : tie.Need-mul-byte Inv-loop μ-loop
-mul-byte c = search needs
+ctab-place-requires : tie.Need-ctab-place-requires Inv-loop μ-loop
+ctab-place-requires c κs = search needs
 
 add-byte : tie.Need-add-byte Inv-loop μ-loop
 add-byte c = search needs
 
-add-byte-2 : tie.Need-add-byte-2 Inv-loop μ-loop
-add-byte-2 c = search needs
-
 byte-requires : tie.Need-byte-requires Inv-loop μ-loop
-byte-requires c κs = omega (arith, ctab-fits _ _ _ _ (turn-more _ _ _ (sym (c .before .before .ctab-turn .ensures) ∙ c .enum-told2 .given .1)))
+byte-requires c κs =
+    let t = c .before in
+    omega (arith, ctab-byte _ _ _ _ _ (turn-more _ _ _ _ (sym (t .before .before .ctab-turn .ensures) ∙ t .enum-told2 .given .1)), c .ctab-place .ensures)
 
 add-homes : tie.Need-add-homes Inv-loop μ-loop
 add-homes c = search needs
@@ -67,7 +65,9 @@ mul-homes : tie.Need-mul-homes Inv-loop μ-loop
 mul-homes c = search needs
 
 array-write-homes : tie.Need-array-write-homes Inv-loop μ-loop
-array-write-homes c = rw (c .byte .ensures .0) (channel-small _ _ ((turn-more _ _ _ (sym (c .before .before .before .ctab-turn .ensures) ∙ c .before .enum-told2 .given .1)) .inside))
+array-write-homes c =
+    let t = c .before .before in
+    rw (c .byte .ensures .0, c .before .ctab-place .ensures) (channel-small _ _ _ ((turn-more _ _ _ _ (sym (t .before .before .ctab-turn .ensures) ∙ t .enum-told2 .given .1)) .inside))
 
 add-n : tie.Need-add-n Inv-loop μ-loop
 add-n c = search needs
@@ -77,11 +77,13 @@ loop-less c = search needs
 
 loop-again : tie.Need-loop-again Inv-loop μ-loop
 loop-again c =
-    let d = c .before in
+    let d = c .before .before in
     let l = d .before .before .before .before .loop in
     let told = sym (d .before .before .ctab-turn .ensures) ∙ d .enum-told2 .given .1 in
-    let more = turn-more _ _ _ told in
-    (omega (arith, ctab-fits _ _ _ _ more), (homes-more _ _ _ _ _ (l .inv .1 .0) more (c .byte .ensures .0), l .inv .1 .1 ∙ run-more _ _ _ (omega arith) told))
+    let more = turn-more _ _ _ _ told in (
+      omega (arith, ctab-fits _ _ _ _ _ more),
+      (homes-more _ _ _ _ _ _ (l .inv .1 .0) more (rw (← (c .before .ctab-place .ensures)) (c .byte .ensures .0)), l .inv .1 .1 ∙ run-more _ _ _ (omega arith) told),
+    )
 
 pub read-ctabs-spec : {M : Type 1} → statement M
 read-ctabs-spec =
@@ -96,9 +98,8 @@ read-ctabs-spec =
     enum-told
     returns-2
     enum-told-2
-    mul-byte
+    ctab-place-requires
     add-byte
-    add-byte-2
     byte-requires
     add-homes
     mul-homes

@@ -1,6 +1,7 @@
 -- One law for each way out, over the first byte that the table refuses.
 use mathlib.Core.Path.{_≡_, sym, _∙_}
-use Rattle.layout.specs.Ranges.{ranges, firstOut}
+use Rattle.layout.specs.declared.edition.Edition.the-variants.{First}
+use Rattle.layout.specs.Ranges.{firstOut}
 use Rattle.layout.specs.Records.{bytesOf, recordOf}
 use Rattle.read_record.proofs.BadBytes.{bad-early, bad-value, bad-late, read-out}
 use borrow.Author.Needs.{needs}
@@ -11,7 +12,7 @@ first-out-requires : tie.Need-first-out-requires
 first-out-requires c κs = search needs
 
 -- the table's answer is about the record's own bytes
-asked : (c : tie.After-first-out) → c .first-out .result ≡ firstOut ranges (bytesOf (recordOf (c .before .before .args .b .now) (c .before .before .args .second))) 0 26
+asked : (c : tie.After-first-out) → c .first-out .result ≡ firstOut First (bytesOf (recordOf (c .before .before .args .b .now) (c .before .before .args .second))) 0 26
 asked c = read-out _ _ (c .before .before .pre) _ (c .first-out .ensures)
 
 returns : tie.Need-returns

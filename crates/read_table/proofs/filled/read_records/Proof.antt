@@ -51,7 +51,9 @@ use denote.Triple.Walked.{says, Stays, stay-none, stay-slice, stay-none-slice, w
 use denote.Exit.{yes}
 use denote.Signature.{plain}
 use Rattle.layout.specs.Promises.{RecordsRead}
+use Rattle.layout.specs.declared.edition.Edition.the-variants.{First}
 use Rattle.layout.specs.declared.record.Record.{Record}
+use Rattle.layout.specs.Group.{ctabPlace}
 use Rattle.layout.specs.declared.answer.Counted.{Counted}
 use Rattle.layout.proofs.record.Record as T
 use Rattle.layout.proofs.record.Record.Laws as T′
@@ -176,7 +178,7 @@ module _ {M : Type 1} (𝓤 : URA M) (H : Heap 𝓤) (A : Atoms 𝓤) (W : Given
     abbrev to-one : ℕ → One 𝓤 H A mem run .Ghost
     to-one i = (((κ₁, tt), (q₁, tt), tt, (src, (p, (i, tt))), (s₁ ∷ [], (valP p ∷ [], (vint w64 i ∷ [], tt)))), tt)
 
-    goes-one : (i : ℕ) → i < 2 ^ 64 → (p .ctabs + 35 * i + 35 ≤ length ss) × (p .cntts + 10 * p .seconds ≤ length ss) → ent 𝓤 (sep 𝓤 (A .lft κ₁ q₁) (sem 𝓤 H A Own)) (One 𝓤 H A mem run .pre (to-one i))
+    goes-one : (i : ℕ) → i < 2 ^ 64 → (ctabPlace First (p .ctabs) (i + 1) ≤ length ss) × (p .cntts + 10 * p .seconds ≤ length ss) → ent 𝓤 (sep 𝓤 (A .lft κ₁ q₁) (sem 𝓤 H A Own)) (One 𝓤 H A mem run .pre (to-one i))
     goes-one i fits within = qed W (‵ (flft κ₁ q₁) ∷ ‵ Own ∷ []) ∵ says ! within $ nothing ! $ move ! (1 ∷ 0 ∷ []) $ join ! $ frame ! $ nothing ! $ owned ! usize (Is usize) (uint-makes 𝓤 H A W w64) i _ (refl, fits) $ fjoin ! $
         owned ! P.the-row (Is P.the-row) (LL.makes P.the-type P′.the-plain 𝓤 H A) p _ g $ fjoin ! $ move ! (1 ∷ 0 ∷ []) $ fjoin ! $ done !
 

@@ -2,8 +2,8 @@
 use mathlib.Core.Path.{sym}
 use native.Mathlib.Omega.{arith}
 use Rattle.layout.proofs.Outs.{value-low, value-gap, value-first, value-wide, value-last}
-use Rattle.read_record.proofs.is_cntt_value.Statement.{statement}
-use Rattle.read_record.proofs.is_cntt_value.Tie as tie
+use Rattle.read_ranges.proofs.is_cntt_value.Statement.{statement}
+use Rattle.read_ranges.proofs.is_cntt_value.Tie as tie
 
 returns : tie.Need-returns
 returns c = sym (value-low _ (omega arith))

@@ -1,18 +1,18 @@
 -- What is still to be looked at is the whole search from byte k on; k goes up.
-use Prim.Native.Nat.{_+_, _-_, _≤_}
+use Prim.Native.Nat.{_-_, _≤_}
 use mathlib.Core.Path.{_≡_, refl, sym, _∙_}
 use native.Mathlib.Omega.{arith}
-use lib.ListN.{getD}
-use Rattle.layout.specs.Scan.{first}
-use Rattle.layout.specs.Ranges.{ranges, outOf, firstOut}
-use Rattle.layout.proofs.Scans.{first-end, first-here, first-next}
-use Rattle.layout.proofs.Outs.{lows, highs, out-below, out-above, out-none}
 use borrow.Author.Needs.{needs}
-use Rattle.read_record.proofs.first_out.Statement.{statement}
-use Rattle.read_record.proofs.first_out.Tie as tie
+use Rattle.layout.specs.Scan.{first}
+use Rattle.layout.specs.declared.edition.Edition.the-variants.{First}
+use Rattle.layout.specs.Ranges.{ranges, commonRanges, setRanges, outAt, firstOut}
+use Rattle.layout.proofs.Scans.{first-end, first-here, first-next}
+use Rattle.layout.proofs.Outs.{lows, highs, out-below, out-above, out-first, at-place}
+use Rattle.read_ranges.proofs.ctab.first_out_ctab.Statement.{statement}
+use Rattle.read_ranges.proofs.ctab.first_out_ctab.Tie as tie
 
 abbrev Inv-loop : tie.InvT-loop
-Inv-loop s at n low high k₀ k = (k ≤ n) × (firstOut ranges s at n ≡ first (λ i. outOf ranges i (getD s (at + i) 0)) k n)
+Inv-loop s at n low high k₀ k = (k ≤ n) × (firstOut First s at n ≡ first (outAt First s at) k n)
 
 abbrev μ-loop : tie.MeasureT-loop
 μ-loop s at n low high k₀ k = n - k
@@ -31,19 +31,19 @@ array-read-if1 : tie.Need-array-read-if1 Inv-loop μ-loop
 array-read-if1 c = search needs
 
 returns : tie.Need-returns Inv-loop μ-loop
-unfolding lows ranges
+unfolding lows highs ranges commonRanges setRanges
 returns c =
     let l = c .before .before .before .loop in
-    sym (l .inv .1 ∙ first-here _ _ _ (omega arith) (out-below _ _ (omega arith)))
+    sym (l .inv .1 ∙ first-here _ _ _ (omega arith) (at-place First _ _ _ _ _ refl (out-below First _ _ _ (omega arith))))
 
 array-read-if2 : tie.Need-array-read-if2 Inv-loop μ-loop
 array-read-if2 c = search needs
 
 returns-2 : tie.Need-returns-2 Inv-loop μ-loop
-unfolding lows highs ranges
+unfolding lows highs ranges commonRanges setRanges
 returns-2 c =
     let l = c .before .before .before .before .loop in
-    sym (l .inv .1 ∙ first-here _ _ _ (omega arith) (out-above _ _ (omega arith) (omega arith)))
+    sym (l .inv .1 ∙ first-here _ _ _ (omega arith) (at-place First _ _ _ _ _ refl (out-above First _ _ _ (omega arith) (omega arith))))
 
 add-k : tie.Need-add-k Inv-loop μ-loop
 add-k c = search needs
@@ -52,18 +52,18 @@ loop-less : tie.Need-loop-less Inv-loop μ-loop
 loop-less c = search needs
 
 loop-again : tie.Need-loop-again Inv-loop μ-loop
-unfolding lows highs ranges
+unfolding lows highs ranges commonRanges setRanges
 loop-again c =
     let l = c .before .before .before .before .loop in
-    (omega arith, l .inv .1 ∙ first-next _ _ _ (omega arith) (out-none _ _ (omega arith) (omega arith)))
+    (omega arith, l .inv .1 ∙ first-next _ _ _ (omega arith) (at-place First _ _ _ _ _ refl (out-first _ _ _ (omega arith) (omega arith))))
 
 returns-3 : tie.Need-returns-3 Inv-loop μ-loop
 returns-3 c =
     let l = c .before .loop in
     sym (l .inv .1 ∙ (first-end _ _ _ (omega arith) ∙ omega arith))
 
-pub first-out-spec : {M : Type 1} → statement M
-first-out-spec =
+pub first-out-ctab-spec : {M : Type 1} → statement M
+first-out-ctab-spec =
     tie.close
     (tie.spec
     Inv-loop

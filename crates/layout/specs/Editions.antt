@@ -1,0 +1,21 @@
+-- The editions of the layout, and what they differ in besides their ranges (document 01, "The CASM body"; document 02, §4; 001, 1.1 and 1.2).
+use Prim.Native.Nat.{ℕ}
+use mathlib.Core.List.{List}
+use Rattle.layout.specs.Bytes.{Ctab, Ctb2}
+pub use Rattle.layout.specs.declared.edition.Edition.{Edition}
+pub use Rattle.layout.specs.declared.edition.Edition.the-variants.{First, Second}
+
+-- the tag of a record's chunk
+abbrev pub tagOf : Edition → List ℕ
+tagOf First = Ctab
+tagOf Second = Ctb2
+
+-- the bytes of a record in the file: "a record is 001's 27 bytes"; "Ctb2 .., 47 bytes"
+abbrev pub size : Edition → ℕ
+size First = 27
+size Second = 47
+
+-- of them those held in memory: "a record in memory holds bytes 0-25"; of the second edition all
+abbrev pub held : Edition → ℕ
+held First = 26
+held Second = 47
