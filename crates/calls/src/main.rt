@@ -1,11 +1,15 @@
 // Reads a script on standard input and prints one answer line for each line of it. A line is taken apart, one call of the library is
 // made, and what came back is printed; no rule of the format stands here.
-use calls_answers::answer_step;
-use script_lines::DONE;
-use script_lines::TEXT;
-use script_out::print;
-use script_out::print::OUT;
-use script_tokens::ROOM;
+mod answer;
+
+use answer::answer_step;
+use script_text::lines;
+use script_text::lines::DONE;
+use script_text::lines::TEXT;
+use script_text::print;
+use script_text::print::OUT;
+use script_words::bytes;
+use script_words::bytes::ROOM;
 
 // A proved loop has to end, and nothing says that a script does. So the loop counts its turns down, from a number that no run uses up.
 fn answer_all(
@@ -15,10 +19,10 @@ fn answer_all(
     out: &mut [u8; OUT],
 ) {
     let mut turns = u64::MAX;
-    let mut reader = script_lines::start();
+    let mut reader = lines::start();
     let mut used = 0;
     while turns > 0 {
-        let step = script_lines::next(text, reader);
+        let step = lines::next(text, reader);
         if step.kind == DONE {
             break;
         }
@@ -30,9 +34,9 @@ fn answer_all(
 }
 
 fn main() {
-    let mut text = script_lines::text();
-    let mut room = script_tokens::room();
-    let mut name = script_tokens::room();
+    let mut text = lines::text();
+    let mut room = bytes::room();
+    let mut name = bytes::room();
     let mut out = print::out();
     answer_all(&mut text, &mut room, &mut name, &mut out);
 }

@@ -1,12 +1,14 @@
 // The records at the end of a line, and the records of a table, printed.
-ghost use Rattle.script_out.specs.Printing.{Waits};
-ghost use Rattle.script_records.specs.Taken.{RowsTaken};
+use crate::blanks::blank_table;
 use crate::put_record;
-use crate::record_at;
+use crate::record_from;
 use layout::record::Record;
-use script_out::print::OUT;
-use script_out::print::put;
-use script_words::rec::record_end;
+use script_text::print::OUT;
+use script_text::print::put;
+use script_words::hex::is_rec;
+use script_words::word::is_past;
+use script_words::word::next;
+use script_words::word::word_at;
 
 // The records of a line, and how many there are; 33 where the line has more, or has something else.
 pub struct Rows {
@@ -14,42 +16,30 @@ pub struct Rows {
     pub records: [Record; 32],
 }
 
-// The records that stand after the token that ends at `at`, up to the line's end.
-pub fn take_records(line: &[u8], at: usize) -> Rows
-    ensures { λ r. ⌜ RowsTaken (now (line .entry)) at r ⌝ }
-{
-    let mut records = [record_at(line, at); 32];
+// The records from the word at `at` on, up to the line's end.
+pub fn take_records(line: &[u8], at: usize) -> Rows {
+    let mut records = blank_table();
     let mut from = at;
     let mut n: usize = 0;
-    while n < 32 && from < line.len() {
-        let end = record_end(line, from);
-        if end <= from {
-            return Rows {
-                lent: 33,
-                records: records,
-            };
-        }
-        records[n] = record_at(line, from);
-        from = end;
+    while n < 32 && is_rec(word_at(line, from)) {
+        records[n] = record_from(word_at(line, from));
+        from = next(line, from);
         n += 1;
     }
-    if from != line.len() {
+    if is_past(line, from) {
         return Rows {
-            lent: 33,
+            lent: n,
             records: records,
         };
     }
     Rows {
-        lent: n,
+        lent: 33,
         records: records,
     }
 }
 
 // The first `count` records, a space before each.
-pub fn put_records(out: &mut [u8; OUT], used: usize, records: [Record; 32], count: usize) -> usize
-    requires { ⌜ Waits used ⌝ }
-    ensures { λ r. ⌜ Waits r ⌝ }
-{
+pub fn put_records(out: &mut [u8; OUT], used: usize, records: [Record; 32], count: usize) -> usize {
     let mut after = used;
     let mut i: usize = 0;
     while i < 32 && i < count {

@@ -1,12 +1,11 @@
--- What is printed waits in the block at every turn; i goes up to 32 at most.
+-- i goes up to 32 at most.
 use Prim.Native.Nat.{_-_}
-use Rattle.script_out.specs.Printing.{Waits}
 use borrow.Author.Needs.{needs}
 use Rattle.script_records.proofs.rows.put_records.Statement.{statement}
 use Rattle.script_records.proofs.rows.put_records.Tie as tie
 
 abbrev Inv-loop : tie.InvT-loop
-Inv-loop out₀ used count records after₀ i₀ out after i = Waits after
+Inv-loop out₀ used count records after₀ i₀ out after i = Unit {0}
 
 abbrev μ-loop : tie.MeasureT-loop
 μ-loop out₀ used count records after₀ i₀ out after i = 32 - i

@@ -1,0 +1,36 @@
+// The verb `edit`: a record is edited inside a body, and the answer is printed with the body.
+use casm::editing::edit_record;
+use layout::answer::Answered;
+use layout::record::Record;
+use layout::record::SourceChannel;
+use script_records::record_from;
+use script_text::print::OUT;
+use script_text::print::put_answer;
+use script_text::print::put_bytes;
+use script_text::print::put_end;
+use script_words::bytes::ROOM;
+use script_words::bytes::first;
+
+// The edit, with the first `count` bytes of the room lent.
+fn edit_first(room: &mut [u8], count: usize, group: usize, channel: u8, new: Record) -> Answered {
+    if count <= room.len() {
+        return edit_record(&mut room[0..count], group, SourceChannel(channel), new);
+    }
+    edit_record(room, group, SourceChannel(channel), new)
+}
+
+// `edit BYTES G CHANNEL REC`: the BYTES are the first `count` of the room.
+pub fn edit(
+    room: &mut [u8; ROOM],
+    count: usize,
+    group: usize,
+    channel: u8,
+    rec: &[u8],
+    out: &mut [u8; OUT],
+    used: usize,
+) -> usize {
+    let answer = edit_first(room, count, group, channel, record_from(rec));
+    let answered = put_answer(out, used, answer.number, answer.place);
+    let told = put_bytes(out, answered, first(room, count));
+    put_end(out, told)
+}

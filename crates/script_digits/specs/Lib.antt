@@ -1,4 +1,0 @@
-pub mod Numbered
-pub mod Ends
-pub mod Decimals
-pub mod Pairs

@@ -1,2 +1,0 @@
-// The answers to a script, written in large blocks.
-pub mod print;

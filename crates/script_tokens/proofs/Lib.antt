@@ -1,4 +1,0 @@
-pub mod Products
-pub mod Sooner
-pub mod Spreads
-pub mod Joins

@@ -1,2 +1,0 @@
-pub mod Verbs
-pub mod Recs

@@ -1,0 +1,68 @@
+// Pairs of hex digits in lower case, and REC: 52 hex digits for bytes 0-25 of a record, `:`, then the Cntt value as two hex digits or `-` for absent.
+ghost use Prim.Native.Nat.{_+_, _*_, _≤_};
+ghost use lib.ListN.{length};
+
+// The value of a hex digit, or 16.
+fn hex_value(b: u8) -> u8 {
+    if b < b'0' {
+        return 16;
+    }
+    if b <= b'9' {
+        return b - b'0';
+    }
+    if b < b'a' {
+        return 16;
+    }
+    if b <= b'f' {
+        return b - 87;
+    }
+    16
+}
+
+// The byte of a pair.
+pub fn byte_of(high: u8, low: u8) -> u8 {
+    hex_value(high) % 16 * 16 + hex_value(low) % 16
+}
+
+// Whether all are hex digits.
+pub fn is_hex(s: &[u8]) -> bool {
+    let mut i = 0;
+    while i < s.len() {
+        if hex_value(s[i]) > 15 {
+            return false;
+        }
+        i += 1;
+    }
+    true
+}
+
+// Whether a word is REC.
+pub fn is_rec(word: &[u8]) -> bool {
+    if word.len() < 54 {
+        return false;
+    }
+    if word[52] != b':' {
+        return false;
+    }
+    if !is_hex(&word[0..52]) {
+        return false;
+    }
+    if word.len() == 54 {
+        return word[53] == b'-';
+    }
+    if word.len() > 55 {
+        return false;
+    }
+    is_hex(&word[53..])
+}
+
+// Puts the bytes of the first `count` pairs into the room from `to` on.
+pub fn store_pairs(pairs: &[u8], count: usize, room: &mut [u8], to: usize)
+    requires { ⌜ (2 * count ≤ length (now pairs)) × (to + count ≤ length (now room)) ⌝ }
+{
+    let mut i = 0;
+    while i < count {
+        room[to + i] = byte_of(pairs[2 * i], pairs[2 * i + 1]);
+        i += 1;
+    }
+}
