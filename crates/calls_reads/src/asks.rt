@@ -4,28 +4,24 @@ use casm::questions::voice_name;
 use casm::questions::who_plays;
 use layout::record::SourceChannel;
 use script_text::print::OUT;
+use script_text::print::at_most;
 use script_text::print::put;
 use script_text::print::put_bytes;
 use script_text::print::put_end;
-use script_text::print::put_number;
 use script_text::print::put_ok;
 use script_text::print::put_refusal;
+use script_text::print::put_told;
 
-// The first `count` channels.
-fn put_channels(
-    out: &mut [u8; OUT],
-    used: usize,
-    channels: [SourceChannel; 16],
-    count: usize,
-) -> usize {
-    let mut after = used;
+// The numbers of source channels.
+fn numbers_of(channels: [SourceChannel; 16]) -> [usize; 16] {
+    let mut numbers = [0usize; 16];
     let mut i: usize = 0;
-    while i < 16 && i < count {
+    while i < 16 {
         let channel = channels[i];
-        after = put_number(out, after, channel.0 as usize);
+        numbers[i] = channel.0 as usize;
         i += 1;
     }
-    after
+    numbers
 }
 
 // `plays BYTES NAME ROOT TYPE`
@@ -38,13 +34,10 @@ pub fn plays(
     used: usize,
 ) -> usize {
     let played = who_plays(body, name, root, kind);
-    if played.number != 0 {
-        return put_refusal(out, used, played.number, played.place);
-    }
-    let accepted = put_ok(out, used);
     let channels = played.channels;
-    let told = put_channels(out, accepted, channels, played.count);
-    put_end(out, told)
+    let numbers = numbers_of(channels);
+    let count = at_most(played.count, 16);
+    put_told(out, used, played.number, played.place, &numbers[0..count])
 }
 
 // `voice BYTES G CHANNEL`: where the name stands says whether it is refused.

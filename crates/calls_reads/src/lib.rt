@@ -1,4 +1,5 @@
 // The verbs of the bench `calls` that read a body: each makes one call of the library and prints the answer.
-pub mod asks;
-pub mod finds;
-pub mod lists;
+mod asks;
+mod finds;
+mod lists;
+pub mod verbs;

@@ -1,4 +1,6 @@
 // The verb `salvage`: the call on a lent list, three numbers an entry (place, length, kind), and whether the rest of the list was kept.
+ghost use Prim.Native.Nat.{_≤_};
+ghost use lib.ListN.{length};
 use casm::list::list_salvage;
 use layout::answer::Counted;
 use script_text::print::OUT;
@@ -18,10 +20,15 @@ fn list() -> [usize; LIST] {
     [7; LIST]
 }
 
-// Whether the numbers from `from` up to n still are 7.
-fn is_kept(list: &[usize; LIST], from: usize, n: usize) -> bool {
-    let mut k: usize = from;
-    while k < LIST && k < n {
+// Whether the numbers behind `count` entries, up to those of n, still are 7.
+fn is_kept(list: &[usize; LIST], count: usize, n: usize) -> bool
+    requires { ⌜ n ≤ 8192 ⌝ }
+{
+    if count > n {
+        return false;
+    }
+    let mut k = 3 * count;
+    while k < 3 * n {
         if list[k] != 7 {
             return false;
         }
@@ -51,41 +58,29 @@ fn put_entries(out: &mut [u8; OUT], used: usize, list: &[usize; LIST], count: us
 }
 
 // The call, with the first n numbers of the list lent.
-fn list_into(body: &[u8], list: &mut [usize], n: usize) -> Counted {
-    if n <= list.len() {
-        return list_salvage(body, &mut list[0..n]);
-    }
-    list_salvage(body, list)
+fn list_into(body: &[u8], list: &mut [usize], n: usize) -> Counted
+    requires { ⌜ n ≤ length (now list) ⌝ }
+{
+    list_salvage(body, &mut list[0..n])
 }
 
-// What a call on the first `lent` numbers of the list came back with.
-fn put_listed(
-    out: &mut [u8; OUT],
-    used: usize,
-    list: &[usize; LIST],
-    lent: usize,
-    listed: Counted,
-) -> usize {
+// The refusal, or how many entries there are.
+fn put_count(out: &mut [u8; OUT], used: usize, listed: Counted) -> usize {
     if listed.number != 0 {
-        let refused = put_refused(out, used, listed.number, listed.place);
-        return put_kept(out, refused, is_kept(list, 0, lent));
+        return put_refused(out, used, listed.number, listed.place);
     }
     let accepted = put_ok(out, used);
-    let counted = put_number(out, accepted, listed.count);
-    let told = put_entries(out, counted, list, listed.count);
-    if lent / 3 < listed.count {
-        return put_kept(out, told, false);
-    }
-    put_kept(out, told, is_kept(list, 3 * listed.count, lent))
+    put_number(out, accepted, listed.count)
 }
 
-// `salvage BYTES ROOM`
+// `salvage BYTES ROOM`: there are no entries where the call is refused.
 pub fn salvage(body: &[u8], entries: usize, out: &mut [u8; OUT], used: usize) -> usize {
     if entries > 8192 {
         return put_bad(out, used);
     }
     let mut list = list();
-    let lent = 3 * entries;
-    let listed = list_into(body, &mut list, lent);
-    put_listed(out, used, &list, lent, listed)
+    let listed = list_into(body, &mut list, 3 * entries);
+    let counted = put_count(out, used, listed);
+    let told = put_entries(out, counted, &list, listed.count);
+    put_kept(out, told, is_kept(&list, listed.count, entries))
 }

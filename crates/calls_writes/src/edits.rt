@@ -5,6 +5,7 @@ use layout::record::Record;
 use layout::record::SourceChannel;
 use script_records::record_from;
 use script_text::print::OUT;
+use script_text::print::at_most;
 use script_text::print::put_answer;
 use script_text::print::put_bytes;
 use script_text::print::put_end;
@@ -13,10 +14,8 @@ use script_words::bytes::first;
 
 // The edit, with the first `count` bytes of the room lent.
 fn edit_first(room: &mut [u8], count: usize, group: usize, channel: u8, new: Record) -> Answered {
-    if count <= room.len() {
-        return edit_record(&mut room[0..count], group, SourceChannel(channel), new);
-    }
-    edit_record(room, group, SourceChannel(channel), new)
+    let lent = at_most(count, room.len());
+    edit_record(&mut room[0..lent], group, SourceChannel(channel), new)
 }
 
 // `edit BYTES G CHANNEL REC`: the BYTES are the first `count` of the room.

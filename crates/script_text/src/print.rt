@@ -1,6 +1,6 @@
 // The answers to a script, written in large blocks. What is printed waits in `out` and is written where that is full, and at the end. `used` is
 // how much waits; each function answers how much then does.
-ghost use Prim.Native.Nat.{_<_};
+ghost use Prim.Native.Nat.{_<_, _≤_};
 
 pub const OUT: usize = 65536;
 
@@ -8,14 +8,21 @@ pub fn out() -> [u8; OUT] {
     [0; OUT]
 }
 
+// How many there are, and `most` where there are more.
+pub fn at_most(n: usize, most: usize) -> usize
+    ensures { λ r. ⌜ r ≤ most ⌝ }
+{
+    if n < most {
+        return n;
+    }
+    most
+}
+
 // Writes the first `used` characters, and all where there are not so many. Where standard output takes no more, there is no one left to tell.
 pub fn flush(out: &[u8; OUT], used: usize) {
     let s: &[u8] = out;
-    if used <= OUT {
-        io::write_all(libc::STDOUT_FILENO, &s[0..used]);
-        return;
-    }
-    io::write_all(libc::STDOUT_FILENO, s);
+    let count = at_most(used, OUT);
+    io::write_all(libc::STDOUT_FILENO, &s[0..count]);
 }
 
 pub fn put(out: &mut [u8; OUT], used: usize, b: u8) -> usize {

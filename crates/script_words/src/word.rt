@@ -83,6 +83,11 @@ fn with_digit(value: usize, b: u8) -> usize {
     value * 10 + digit
 }
 
+// A number that is taken as one up to 255.
+pub fn byte(n: usize) -> u8 {
+    (n % 256) as u8
+}
+
 // The number that a word is in decimal. Where it is none, or none below 2^32, this is 2^32 or more.
 pub fn number(word: &[u8]) -> usize {
     if word.len() == 0 {

@@ -1,14 +1,14 @@
 -- i goes up to 16 at most.
 use Prim.Native.Nat.{_-_}
 use borrow.Author.Needs.{needs}
-use Rattle.calls_reads.proofs.asks.put_channels.Statement.{statement}
-use Rattle.calls_reads.proofs.asks.put_channels.Tie as tie
+use Rattle.calls_reads.proofs.asks.numbers_of.Statement.{statement}
+use Rattle.calls_reads.proofs.asks.numbers_of.Tie as tie
 
 abbrev Inv-loop : tie.InvT-loop
-Inv-loop out₀ used count channels after₀ i₀ out after i = Unit {0}
+Inv-loop channels numbers₀ i₀ numbers i = Unit {0}
 
 abbrev μ-loop : tie.MeasureT-loop
-μ-loop out₀ used count channels after₀ i₀ out after i = 16 - i
+μ-loop channels numbers₀ i₀ numbers i = 16 - i
 
 loop-holds : tie.Need-loop-holds Inv-loop μ-loop
 loop-holds c = search needs
@@ -16,11 +16,14 @@ loop-holds c = search needs
 array-copy-out-channel : tie.Need-array-copy-out-channel Inv-loop μ-loop
 array-copy-out-channel c = search needs
 
-cast-put-number : tie.Need-cast-put-number Inv-loop μ-loop
-cast-put-number c = search needs
+cast-numbers : tie.Need-cast-numbers Inv-loop μ-loop
+cast-numbers c = search needs
 
-put-number-requires : tie.Need-put-number-requires Inv-loop μ-loop
-put-number-requires c κs = search needs
+mul-numbers : tie.Need-mul-numbers Inv-loop μ-loop
+mul-numbers c = search needs
+
+array-write-numbers : tie.Need-array-write-numbers Inv-loop μ-loop
+array-write-numbers c = search needs
 
 add-i : tie.Need-add-i Inv-loop μ-loop
 add-i c = search needs
@@ -34,21 +37,18 @@ loop-again c = search needs
 returns : tie.Need-returns Inv-loop μ-loop
 returns c = search needs
 
-returns-2 : tie.Need-returns-2 Inv-loop μ-loop
-returns-2 c = search needs
-
-pub put-channels-spec : {M : Type 1} → statement M
-put-channels-spec =
+pub numbers-of-spec : {M : Type 1} → statement M
+numbers-of-spec =
     tie.close
     (tie.spec
     Inv-loop
     μ-loop
     loop-holds
     array-copy-out-channel
-    cast-put-number
-    put-number-requires
+    cast-numbers
+    mul-numbers
+    array-write-numbers
     add-i
     loop-less
     loop-again
-    returns
-    returns-2)
+    returns)

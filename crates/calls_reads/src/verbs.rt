@@ -1,0 +1,39 @@
+// A line whose verb reads, by its verb.
+use crate::asks::plays;
+use crate::asks::voice;
+use crate::finds;
+use crate::lists::salvage;
+use script_text::print::OUT;
+use script_text::print::put_bad;
+use script_words::asked::BODY;
+use script_words::asked::CHANNEL;
+use script_words::asked::FIND;
+use script_words::asked::PART;
+use script_words::asked::PLAYS;
+use script_words::asked::SALVAGE;
+use script_words::asked::VOICE;
+use script_words::asked::WHERE;
+use script_words::word::byte;
+
+// The body, the NAME and the numbers of a line are handed to its verb.
+pub fn answer(
+    verb: usize,
+    body: &[u8],
+    name: &[u8],
+    one: usize,
+    two: usize,
+    out: &mut [u8; OUT],
+    used: usize,
+) -> usize {
+    match verb {
+        FIND => finds::find(body, out, used),
+        BODY => finds::body(body, out, used),
+        PART => finds::part(body, name, out, used),
+        WHERE => finds::place(body, one, out, used),
+        CHANNEL => finds::channel(body, one, byte(two), out, used),
+        SALVAGE => salvage(body, one, out, used),
+        PLAYS => plays(body, name, byte(one), byte(two), out, used),
+        VOICE => voice(body, one, byte(two), out, used),
+        _ => put_bad(out, used),
+    }
+}
