@@ -58,29 +58,18 @@ pub(crate) fn position(word: &[u8], words: &[u8]) -> usize {
     k
 }
 
-// A decimal digit's value, or 10.
-fn digit_of(b: u8) -> usize
-    ensures { λ r. ⌜ r ≤ 10 ⌝ }
-{
-    if b < b'0' {
-        return 10;
-    }
-    if b > b'9' {
-        return 10;
-    }
-    (b - b'0') as usize
-}
-
 // A number with one digit more. NONE where there is no digit, and where the number was too large already.
 fn with_digit(value: usize, b: u8) -> usize {
-    let digit = digit_of(b);
-    if digit > 9 {
+    if b < b'0' {
+        return NONE;
+    }
+    if b > b'9' {
         return NONE;
     }
     if value > 429496729 {
         return NONE;
     }
-    value * 10 + digit
+    value * 10 + (b - b'0') as usize
 }
 
 // A number that is taken as one up to 255.
