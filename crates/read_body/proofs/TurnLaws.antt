@@ -5,10 +5,10 @@ use native.Mathlib.Decide.{decLt}
 use mathlib.Core.Path.{_≡_, refl, sym, ap, _∙_}
 use mathlib.Core.Bool.{true, false}
 use mathlib.Core.List.{List}
-use lib.ListN.{length, getD, set, take, drop, length-take, length-drop, length-set}
-use lib.Seq.{getD-set-same, getD-set-other}
-use Rattle.layout.specs.Bytes.{word, four}
-use Rattle.layout.specs.Group.{headFault, contents, groupAt}
+use lib.ListN.{length, getD, set, take, drop, length-drop, length-set}
+use lib.Seq.{take-all, getD-set-same, getD-set-other}
+use Rattle.layout.specs.Bytes.{word, four, CSEG}
+use Rattle.layout.specs.Group.{headFault, groupAt}
 use Rattle.layout.specs.Body.{groupPlace, groupTurnAt, groupTurn}
 use Rattle.layout.specs.declared.edition.Edition.{Edition}
 use Rattle.layout.specs.declared.edition.Edition.the-variants.{First}
@@ -17,10 +17,10 @@ use Rattle.layout.specs.declared.turn.Turn.the-variants.{Refused, More, Done}
 use Rattle.layout.specs.declared.turn.Judged.the-variants.{Unsound, Sound}
 use Rattle.layout.specs.declared.turn.Run.the-variants.{Ended}
 use Rattle.layout.proofs.Runs.{ended-once}
-use Rattle.layout.proofs.Heads.{head-within}
-use Rattle.layout.proofs.GroupPlaces.{contents-place}
+use Rattle.layout.proofs.Groups.{cseg-tag}
+use Rattle.layout.proofs.GroupPlaces.{group-place}
 use Rattle.layout.proofs.GroupSound.{group-sound-is}
-use Rattle.layout.proofs.GroupThere.{there-empty, there-unsound, there-sound}
+use Rattle.layout.proofs.GroupThere.{head-drop}
 use Rattle.layout.proofs.Bodies.{turn-end, turn-head, turn-many, turn-unsound, turn-sound, group-more, group-there}
 use Rattle.read_met.specs.Before.{Places, NamedBefore}
 use Rattle.read_met.proofs.Marked.{marks-next}
@@ -33,25 +33,26 @@ refused-not-more a b e = let z : _≡_ {A = ℕ} 0 1 = cc in omega arith
 pub done-not-more : Done ≡ More → ⊥
 done-not-more e = let z : _≡_ {A = ℕ} 0 1 = cc in omega arith
 
--- ---- a group whose header is without fault, its contents cut out
+-- ---- the group at a place, in the bytes from there on as the code cuts them
 
-abbrev inside : List ℕ → ℕ → ℕ → List ℕ
-inside s at l = take (at + 8 + l - (at + 8)) (drop (at + 8) s)
+abbrev from : List ℕ → ℕ → List ℕ
+from s at = take (length s - at) (drop at s)
 
-module _ (s : List ℕ) (at f : ℕ) (e : f ≡ headFault s at (four 0x43534547)) (z : f ≡ 0) where
-  pub within : at + 8 + word s (at + 4) ≤ length s
-  within = head-within s at (four 0x43534547) f e z
+module _ (s : List ℕ) (at : ℕ) (h : at ≤ length s) where
+  from-there : from s at ≡ drop at s
+  from-there = take-all (length s - at) (drop at s) (rw length-drop (omega arith))
 
-  module _ (h : at ≤ length s) (l : ℕ) (q : l ≡ word s (at + 4)) where
-    -- a place of the contents is one of the body
-    pub place-within : (number place : ℕ) → contents (inside s at l) ≡ Unsound number place → at + 8 + place ≤ length s
-    place-within number place c =
-        let y : at + 8 + word s (at + 4) ≤ length s = within in
-        omega (arith, contents-place (inside s at l) number place c, length-take (at + 8 + l - (at + 8)) (drop (at + 8) s), length-drop (at + 8) s)
+  -- a place of the group is one of the body
+  pub place-within : (number place : ℕ) → groupAt (from s at) ≡ Unsound number place → at + place ≤ length s
+  place-within number place e = omega (arith, group-place (drop at s) number place (rw from-there at e), length-drop at s)
 
-    -- the text of a sound group, and where it ends
-    pub text-is : (ed : Edition) (t c m : ℕ) → (l ≡ 0 → ⊥) → contents (inside s at l) ≡ Sound ed t c m → (t ≡ word s (at + 12)) × (at + 16 + t ≤ length s)
-    text-is ed t c m d is = let g = group-there s 0 at ed t c m h (there-sound s at f h e z l q d ed t c m is) in (g .0, omega (arith, g .1 .0, g .1 .1))
+  -- the text of a sound group, and where it ends
+  pub text-is : (ed : Edition) (t c m : ℕ) → groupAt (from s at) ≡ Sound ed t c m → (t ≡ word s (at + 12)) × (at + 16 + t ≤ length s)
+  text-is ed t c m e = let g = group-there s 0 at ed t c m h (rw from-there at e) in (g .0, omega (arith, g .1 .0, g .1 .1))
+
+  -- a header without fault in the body is one there
+  pub headed-there : (f : ℕ) → f ≡ headFault s at (four 0x43534547) → f ≡ 0 → headFault (from s at) 0 CSEG ≡ 0
+  headed-there f e z = rw (from-there, ← cseg-tag) (head-drop s (four 0x43534547) at h ∙ (sym e ∙ z))
 
 -- ---- the ways out of a turn
 
@@ -77,32 +78,24 @@ module _ (s : List ℕ) (n at : ℕ) (here : at ≡ groupPlace s n) (r : Turned)
       pub turned-many : 32 ≤ n → r .turn ≡ Refused 12 at → GroupTurned s n at r table
       turned-many h q = refusing 12 at q (turn-many s n at o f e z h)
 
-      module _ (w : n < 32) (h : at ≤ length s) (l : ℕ) (q : l ≡ word s (at + 4)) where
-        pub turned-empty : l ≡ 0 → r .turn ≡ Refused 6 at → GroupTurned s n at r table
-        turned-empty d t =
-            let y : at + 0 ≡ at = omega arith in
-            refusing 6 at t (rw y at (turn-unsound s n at o f e z w 6 0 (there-empty s at f h e z l q d)))
+      module _ (w : n < 32) (h : at ≤ length s) where
+        pub turned-unsound : (number place : ℕ) → groupAt (from s at) ≡ Unsound number place → r .turn ≡ Refused number (at + place) → GroupTurned s n at r table
+        turned-unsound number place g t = refusing number (at + place) t (turn-unsound s n at o f e z w number place (rw (from-there s at h) at g))
 
-        module _ (d : l ≡ 0 → ⊥) where
-          pub turned-unsound : (number place : ℕ) → contents (inside s at l) ≡ Unsound number place → r .turn ≡ Refused number (at + 8 + place) → GroupTurned s n at r table
-          turned-unsound number place c t =
-              let y : at + (8 + place) ≡ at + 8 + place = omega arith in
-              refusing number (at + 8 + place) t (rw y at (turn-unsound s n at o f e z w number (8 + place) (there-unsound s at f h e z l q d number place c)))
+        module _ (ed : Edition) (t c m : ℕ) (g : groupAt (from s at) ≡ Sound ed t c m) where
+          sound-there : groupAt (drop at s) ≡ Sound ed t c m
+          sound-there = rw (from-there s at h) at g
 
-          module _ (ed : Edition) (t c m : ℕ) (is : contents (inside s at l) ≡ Sound ed t c m) where
-            sound-there : groupAt (drop at s) ≡ Sound ed t c m
-            sound-there = there-sound s at f h e z l q d ed t c m is
+          pub turned-again : NamedBefore s n at true table → r .turn ≡ Refused 13 at → GroupTurned s n at r table
+          turned-again b v = refusing 13 at v (turn-sound s n at o f e z w ed t c m true sound-there (sym (b .answer)))
 
-            pub turned-again : NamedBefore s n at true table → r .turn ≡ Refused 13 at → GroupTurned s n at r table
-            turned-again b v = refusing 13 at v (turn-sound s n at o f e z w ed t c m true sound-there (sym (b .answer)))
-
-            pub turned-more : NamedBefore s n at false table → r .turn ≡ More → r .records ≡ c → r .seconds ≡ m → GroupTurned s n at r table
-            turned-more b v x y =
-                record {
-                  turn = turn-is More v (turn-sound s n at o f e z w ed t c m false sound-there (sym (b .answer)));
-                  sound = λ _. rw (x, y, group-sound-is (drop at s) ed t c m sound-there .edition, ← (text-is s at f e z h l q ed t c m d is .0)) sound-there;
-                  noted = λ _. let own = b .noted refl in marks-next s n table (own .0) at here (own .1);
-                }
+          pub turned-more : NamedBefore s n at false table → r .turn ≡ More → r .records ≡ c → r .seconds ≡ m → GroupTurned s n at r table
+          turned-more b v x y =
+              record {
+                turn = turn-is More v (turn-sound s n at o f e z w ed t c m false sound-there (sym (b .answer)));
+                sound = λ _. rw (x, y, group-sound-is (drop at s) ed t c m sound-there .edition, ← (text-is s at h ed t c m g .0)) sound-there;
+                noted = λ _. let own = b .noted refl in marks-next s n table (own .0) at here (own .1);
+              }
 
 -- ---- the tables: empty at the start, one entry for each turn that goes on
 

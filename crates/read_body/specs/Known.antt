@@ -8,11 +8,11 @@ use Rattle.layout.specs.Group.{groupAt}
 use Rattle.layout.specs.Body.{groupPlace, groupTurn, bodyRun}
 use Rattle.layout.specs.declared.edition.Edition.the-variants.{First}
 use Rattle.layout.specs.declared.turn.Turn.the-variants.{More}
+use Rattle.layout.specs.declared.turn.Run.{Run}
 use Rattle.layout.specs.declared.turn.Run.the-variants.{Ended}
 use Rattle.layout.specs.declared.turn.Judged.the-variants.{Sound}
 use Rattle.read_met.specs.Before.{Places, Marks}
 use Rattle.read_body.specs.declared.survey.Turned.{Turned}
-use Rattle.read_body.specs.declared.survey.Survey.{Survey}
 
 -- tables of how many Ctabs and Cntts each of n groups has
 pub record Insides (s : List ℕ) (n : ℕ) (records seconds : List ℕ) : Type 0 where
@@ -25,7 +25,7 @@ pub record GroupTurned (s : List ℕ) (n at : ℕ) (r : Turned) (table : List �
   pub sound : r .turn ≡ More → groupAt (drop at s) ≡ Sound First (word s (at + 12)) (r .records) (r .seconds)
   pub noted : r .turn ≡ More → Marks s (n + 1) table
 
--- a whole body, and where it is accepted its groups
-pub record Surveyed (s : List ℕ) (r : Survey) : Type 0 where
-  pub run : r .run ≡ bodyRun s
-  pub known : (n : ℕ) → r .run ≡ Ended n → (n ≤ 32) × (Places s n (r .places) × Insides s n (r .records) (r .seconds))
+-- a whole body, and where it is accepted the tables of its groups
+pub record Surveyed (s : List ℕ) (r : Run) (places records seconds : List ℕ) : Type 0 where
+  pub run : r ≡ bodyRun s
+  pub known : (n : ℕ) → r ≡ Ended n → (n ≤ 32) × (Places s n places × Insides s n records seconds)

@@ -8,7 +8,6 @@ ghost use Rattle.read_met.specs.Before.{Places, Marks};
 ghost use Rattle.read_body.specs.Known.{GroupTurned, Surveyed};
 use layout::limit::BODY;
 use layout::limit::GROUPS;
-use layout::refusal::BAD_TAG;
 use layout::refusal::NAME_AGAIN;
 use layout::refusal::OVER_LIMIT;
 use layout::refusal::TOO_MANY_GROUPS;
@@ -54,8 +53,7 @@ fn group_turn(
     requires { ⌜ (at ≡ groupPlace (now s) n) × ((at ≤ length (now s)) × ((n ≤ 32) × (Places (now s) n (now places) × Marks (now s) n (now table)))) ⌝ }
     ensures { λ r. ⌜ GroupTurned (now (s .entry)) n at r (now (table .exit)) ⌝ }
 {
-    let whole = s.len();
-    if at == whole {
+    if at == s.len() {
         return ending(Turn::Done);
     }
     let h = read_bytes::head_fault(s, at, CSEG);
@@ -65,14 +63,8 @@ fn group_turn(
     if GROUPS <= n {
         return ending(Turn::Refused(TOO_MANY_GROUPS, at));
     }
-    let length = read_bytes::word_at(s, at + 4);
-    if length == 0 {
-        return ending(Turn::Refused(BAD_TAG, at));
-    }
-    let start = at + 8;
-    let end = start + length;
-    match read_group::judge_contents(&s[start..end]) {
-        Judged::Unsound(number, place) => ending(Turn::Refused(number, start + place)),
+    match read_group::judge_headed(&s[at..]) {
+        Judged::Unsound(number, place) => ending(Turn::Refused(number, at + place)),
         Judged::Sound(_, text, records, seconds) => {
             if read_met::is_named_before(s, n, places, table, at, text) {
                 return ending(Turn::Refused(NAME_AGAIN, at));
@@ -86,44 +78,28 @@ fn group_turn(
     }
 }
 
-// The whole body: its groups, or the refusal.
-pub fn read_groups(s: &[u8]) -> Survey
-    ensures { λ r. ⌜ Surveyed (now (s .entry)) r ⌝ }
+// The groups in their order, each entered in the tables; or the refusal.
+fn enter_groups(
+    s: &[u8],
+    places: &mut [usize; GROUPS],
+    records: &mut [u16; GROUPS],
+    seconds: &mut [u16; GROUPS],
+) -> Run
+    requires { ⌜ (length (now places) ≡ 32) × ((length (now records) ≡ 32) × (length (now seconds) ≡ 32)) ⌝ }
+    ensures { λ r. ⌜ Surveyed (now (s .entry)) r (now (places .exit)) (now (records .exit)) (now (seconds .exit)) ⌝ }
 {
-    let mut places: [usize; GROUPS] = [0; GROUPS];
-    let mut records: [u16; GROUPS] = [0; GROUPS];
-    let mut seconds: [u16; GROUPS] = [0; GROUPS];
     if BODY < s.len() {
-        return Survey {
-            run: Run::Stopped(OVER_LIMIT, 0),
-            places: places,
-            records: records,
-            seconds: seconds,
-        };
+        return Run::Stopped(OVER_LIMIT, 0);
     }
     let mut table: [u64; 256] = [0; 256];
     let mut n: usize = 0;
     let mut at: usize = 0;
     loop {
-        let t = group_turn(s, n, at, &places, &mut table);
+        let t = group_turn(s, n, at, places, &mut table);
         let turn = t.turn;
         match turn {
-            Turn::Refused(number, place) => {
-                return Survey {
-                    run: Run::Stopped(number, place),
-                    places: places,
-                    records: records,
-                    seconds: seconds,
-                };
-            }
-            Turn::Done => {
-                return Survey {
-                    run: Run::Ended(n),
-                    places: places,
-                    records: records,
-                    seconds: seconds,
-                };
-            }
+            Turn::Refused(number, place) => return Run::Stopped(number, place),
+            Turn::Done => return Run::Ended(n),
             Turn::More => {}
         }
         places[n] = at;
@@ -131,5 +107,21 @@ pub fn read_groups(s: &[u8]) -> Survey
         seconds[n] = t.seconds as u16;
         at = at + 8 + read_bytes::word_at(s, at + 4);
         n += 1;
+    }
+}
+
+// The whole body: its groups, or the refusal.
+pub fn read_groups(s: &[u8]) -> Survey
+    ensures { λ r. ⌜ Surveyed (now (s .entry)) (r .run) (r .places) (r .records) (r .seconds) ⌝ }
+{
+    let mut places: [usize; GROUPS] = [0; GROUPS];
+    let mut records: [u16; GROUPS] = [0; GROUPS];
+    let mut seconds: [u16; GROUPS] = [0; GROUPS];
+    let run = enter_groups(s, &mut places, &mut records, &mut seconds);
+    Survey {
+        run: run,
+        places: places,
+        records: records,
+        seconds: seconds,
     }
 }

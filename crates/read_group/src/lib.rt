@@ -3,7 +3,8 @@ pub mod cntts;
 pub mod ctabs;
 
 ghost use mathlib.Core.Path.{_≡_};
-ghost use Rattle.layout.specs.Group.{contents, groupAt};
+ghost use Rattle.layout.specs.Bytes.{CSEG as Cseg};
+ghost use Rattle.layout.specs.Group.{headFault, contents, groupAt};
 use crate::cntts::read_cntts;
 use crate::ctabs::read_ctabs;
 use layout::edition::Edition;
@@ -39,14 +40,11 @@ pub fn judge_contents(c: &[u8]) -> Judged
     }
 }
 
-// The group at the start of its parent's bytes.
-pub fn judge_group(p: &[u8]) -> Judged
+// A group whose header is without fault, at the start of its parent's bytes.
+pub fn judge_headed(p: &[u8]) -> Judged
+    requires { ⌜ headFault (now p) 0 Cseg ≡ 0 ⌝ }
     ensures { λ r. ⌜ r ≡ groupAt (now (p .entry)) ⌝ }
 {
-    let h = read_bytes::head_fault(p, 0, CSEG);
-    if h != 0 {
-        return Judged::Unsound(h, 0);
-    }
     let length = read_bytes::word_at(p, 4);
     if length == 0 {
         return Judged::Unsound(BAD_TAG, 0);
@@ -56,4 +54,15 @@ pub fn judge_group(p: &[u8]) -> Judged
         Judged::Unsound(number, place) => Judged::Unsound(number, 8 + place),
         Judged::Sound(edition, text, n, m) => Judged::Sound(edition, text, n, m),
     }
+}
+
+// The group at the start of its parent's bytes.
+pub fn judge_group(p: &[u8]) -> Judged
+    ensures { λ r. ⌜ r ≡ groupAt (now (p .entry)) ⌝ }
+{
+    let h = read_bytes::head_fault(p, 0, CSEG);
+    if h != 0 {
+        return Judged::Unsound(h, 0);
+    }
+    judge_headed(p)
 }

@@ -1,7 +1,7 @@
--- The header, the count, the contents and the names in their order: one law for each way out.
+-- The header, the count, the group and its names in their order: one law for each way out.
 use mathlib.Core.Path.{refl, sym, _∙_}
 use native.Mathlib.Omega.{arith}
-use Rattle.read_body.proofs.TurnLaws.{turned-end, turned-head, turned-many, turned-empty, turned-unsound, turned-again, turned-more, within, place-within, text-is}
+use Rattle.read_body.proofs.TurnLaws.{turned-end, turned-head, turned-many, turned-unsound, turned-again, turned-more, headed-there, place-within, text-is}
 use borrow.Author.Needs.{needs}
 use Rattle.read_body.proofs.survey.group_turn.Statement.{statement}
 use Rattle.read_body.proofs.survey.group_turn.Tie as tie
@@ -29,66 +29,34 @@ ending-requires-3 c κs = search needs
 returns-3 : tie.Need-returns-3
 returns-3 c =
     let f = c .before .before .before in
-    turned-many _ _ _ (f .before .before .before .pre .0) _ _ (f .before .if1 .left) _ (f .head-fault .ensures) (c .before .before .if2 .left) (c .before .if3 .taken) (c .ending3 .ensures)
+    turned-many _ _ _ (f .before .before .before .pre .0) _ _ (f .before .if1 .left) _ (f .head-fault .ensures) (c .before .before .if2 .left) (omega arith) (c .ending3 .ensures)
 
-add-word-at : tie.Need-add-word-at
-add-word-at c = search needs
+sub-judge-headed : tie.Need-sub-judge-headed
+sub-judge-headed c = search needs
 
-word-at-requires : tie.Need-word-at-requires
-word-at-requires c κs = omega (arith, within _ _ _ (c .before .before .head-fault .ensures) (c .before .if2 .left))
+part-judge-headed-start : tie.Need-part-judge-headed-start
+part-judge-headed-start c = search needs
 
-ending-requires-4 : tie.Need-ending-requires-4
-ending-requires-4 c κs = search needs
+part-judge-headed-end : tie.Need-part-judge-headed-end
+part-judge-headed-end c = search needs
 
-returns-4 : tie.Need-returns-4
-returns-4 c =
-    let w = c .before .before in
-    let f = w .before .before .before in
-    let a = f .before .before .before in
-    turned-empty _ _ _ (a .pre .0) _ _ (f .before .if1 .left) _ (f .head-fault .ensures) (w .before .before .if2 .left) (omega arith) (a .pre .1 .0) _ (w .word-at .ensures .0) (c .before .if4 .taken) (c .ending4 .ensures)
-
-add-start : tie.Need-add-start
-add-start c = search needs
-
-add-end : tie.Need-add-end
-add-end c = search needs
-
-sub-judge-contents : tie.Need-sub-judge-contents
-sub-judge-contents c =
-    let w = c .before in
-    let f = w .before .before .before in
-    omega (arith, within _ _ _ (f .head-fault .ensures) (w .before .before .if2 .left))
-
-part-judge-contents-start : tie.Need-part-judge-contents-start
-part-judge-contents-start c =
-    let w = c .before in
-    let f = w .before .before .before in
-    omega (arith, within _ _ _ (f .head-fault .ensures) (w .before .before .if2 .left))
-
-part-judge-contents-end : tie.Need-part-judge-contents-end
-part-judge-contents-end c =
-    let w = c .before in
-    let f = w .before .before .before in
-    omega (arith, within _ _ _ (f .head-fault .ensures) (w .before .before .if2 .left), w .word-at .ensures .0)
-
-judge-contents-requires : tie.Need-judge-contents-requires
-judge-contents-requires c κs = search needs
+judge-headed-requires : tie.Need-judge-headed-requires
+judge-headed-requires c κs =
+    let f = c .before .before .before in
+    headed-there _ _ (f .before .before .before .pre .1 .0) _ (f .head-fault .ensures) (c .before .before .if2 .left)
 
 enum-known-number : tie.Need-enum-known-number
 enum-known-number c = search needs
 
-add-t27 : tie.Need-add-t27
-add-t27 c =
+add-t22 : tie.Need-add-t22
+add-t22 c =
     let j = c .before .before .before in
-    let w = j .before .before .before in
-    let f = w .before .before .before in
-    let a = f .before .before .before in
-    let is = place-within (a .args .s .now) (a .args .at) (f .head-fault .result) (f .head-fault .ensures) (w .before .before .if2 .left) (a .pre .1 .0) (w .word-at .result) (w .word-at .ensures .0)
-    (c .before .number .given .0 .0) (c .before .number .given .0 .1 .0) (sym (j .judge-contents .ensures) ∙ c .before .number .given .1) in
-    omega arith
+    let a = j .before .before .before .before .before .before .before in
+    let g = c .before .number .given in
+    omega (arith, place-within (a .args .s .now) (a .args .at) (a .pre .1 .0) (g .0 .0) (g .0 .1 .0) (sym (j .judge-headed .ensures) ∙ g .1))
 
-ending-requires-5 : tie.Need-ending-requires-5
-ending-requires-5 c κs = search needs
+ending-requires-4 : tie.Need-ending-requires-4
+ending-requires-4 c κs = search needs
 
 enum-known-text : tie.Need-enum-known-text
 enum-known-text c = search needs
@@ -96,49 +64,38 @@ enum-known-text c = search needs
 is-named-before-requires : tie.Need-is-named-before-requires
 is-named-before-requires c κs =
     let j = c .before .before .before .before in
-    let w = j .before .before .before in
-    let f = w .before .before .before in
-    let a = f .before .before .before in (
-      omega arith,
-      (
-        a .pre .1 .1 .1 .0,
-        (
-          a .pre .1 .1 .1 .1,
-          text-is _ _ _ (f .head-fault .ensures) (w .before .before .if2 .left) (a .pre .1 .0) _ (w .word-at .ensures .0) _ _ _ _ (j .before .before .if4 .left)
-              (sym (j .judge-contents .ensures) ∙ c .before .before .text .given .1),
-        ),
-      ),
-    )
+    let a = j .before .before .before .before .before .before .before in
+    let is = sym (j .judge-headed .ensures) ∙ c .before .before .text .given .1 in
+    (omega arith, (a .pre .1 .1 .1 .0, (a .pre .1 .1 .1 .1, text-is _ _ (a .pre .1 .0) _ _ _ _ is)))
 
-ending-requires-6 : tie.Need-ending-requires-6
-ending-requires-6 c κs = search needs
+ending-requires-5 : tie.Need-ending-requires-5
+ending-requires-5 c κs = search needs
+
+returns-4 : tie.Need-returns-4
+returns-4 c =
+    let j = c .before .before .before .before .before .before .before in
+    let f = j .before .before .before .before in
+    let a = f .before .before .before in
+    let is = sym (j .judge-headed .ensures) ∙ c .before .before .before .before .before .text .given .1 in
+    turned-again _ _ _ (a .pre .0) _ _ (f .before .if1 .left) _ (f .head-fault .ensures) (j .before .before .before .if2 .left) (omega arith) (a .pre .1 .0) _ _ _ _ is
+    (rw (c .before .if4 .taken) at (c .before .before .is-named-before .ensures)) (c .ending5 .ensures)
 
 returns-5 : tie.Need-returns-5
 returns-5 c =
-    let j = c .before .before .before .before .before .before .before in
-    let w = j .before .before .before in
-    let f = w .before .before .before in
+    let j = c .before .before .before .before in
+    let f = j .before .before .before .before in
     let a = f .before .before .before in
-    turned-again _ _ _ (a .pre .0) _ _ (f .before .if1 .left) _ (f .head-fault .ensures) (w .before .before .if2 .left) (omega arith) (a .pre .1 .0) _ (w .word-at .ensures .0) (j .before .before .if4 .left)
-    _ _ _ _ (sym (j .judge-contents .ensures) ∙ c .before .before .before .before .before .text .given .1) (rw (c .before .if5 .taken) at (c .before .before .is-named-before .ensures)) (c .ending6 .ensures)
+    let is = sym (j .judge-headed .ensures) ∙ c .before .before .number .given .1 in
+    turned-unsound _ _ _ (a .pre .0) _ _ (f .before .if1 .left) _ (f .head-fault .ensures) (j .before .before .before .if2 .left) (omega arith) (a .pre .1 .0) _ _ is (c .ending4 .ensures)
 
 returns-6 : tie.Need-returns-6
 returns-6 c =
-    let j = c .before .before .before .before in
-    let w = j .before .before .before in
-    let f = w .before .before .before in
-    let a = f .before .before .before in
-    turned-unsound _ _ _ (a .pre .0) _ _ (f .before .if1 .left) _ (f .head-fault .ensures) (w .before .before .if2 .left) (omega arith) (a .pre .1 .0) _ (w .word-at .ensures .0) (j .before .before .if4 .left)
-    _ _ (sym (j .judge-contents .ensures) ∙ c .before .before .number .given .1) (c .ending5 .ensures)
-
-returns-7 : tie.Need-returns-7
-returns-7 c =
     let j = c .before .before .before .before .before .before in
-    let w = j .before .before .before in
-    let f = w .before .before .before in
+    let f = j .before .before .before .before in
     let a = f .before .before .before in
-    turned-more _ _ _ (a .pre .0) _ _ (f .before .if1 .left) _ (f .head-fault .ensures) (w .before .before .if2 .left) (omega arith) (a .pre .1 .0) _ (w .word-at .ensures .0) (j .before .before .if4 .left)
-    _ _ _ _ (sym (j .judge-contents .ensures) ∙ c .before .before .before .before .text .given .1) (rw (c .if5 .left) at (c .before .is-named-before .ensures)) refl refl refl
+    let is = sym (j .judge-headed .ensures) ∙ c .before .before .before .before .text .given .1 in
+    turned-more _ _ _ (a .pre .0) _ _ (f .before .if1 .left) _ (f .head-fault .ensures) (j .before .before .before .if2 .left) (omega arith) (a .pre .1 .0) _ _ _ _ is
+    (rw (c .if4 .left) at (c .before .is-named-before .ensures)) refl refl refl
 
 pub group-turn-spec : {M : Type 1} → statement M
 group-turn-spec =
@@ -151,22 +108,16 @@ group-turn-spec =
     returns-2
     ending-requires-3
     returns-3
-    add-word-at
-    word-at-requires
-    ending-requires-4
-    returns-4
-    add-start
-    add-end
-    sub-judge-contents
-    part-judge-contents-start
-    part-judge-contents-end
-    judge-contents-requires
+    sub-judge-headed
+    part-judge-headed-start
+    part-judge-headed-end
+    judge-headed-requires
     enum-known-number
-    add-t27
-    ending-requires-5
+    add-t22
+    ending-requires-4
     enum-known-text
     is-named-before-requires
-    ending-requires-6
+    ending-requires-5
+    returns-4
     returns-5
-    returns-6
-    returns-7)
+    returns-6)

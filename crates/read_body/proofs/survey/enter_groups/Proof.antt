@@ -13,8 +13,8 @@ use Rattle.read_met.proofs.Marked.{marks-start}
 use Rattle.read_body.specs.Known.{Insides}
 use Rattle.read_body.proofs.TurnLaws.{places-start, insides-start, places-next, insides-next, more-within, counts-small, ended-known}
 use borrow.Author.Needs.{needs}
-use Rattle.read_body.proofs.survey.read_groups.Statement.{statement}
-use Rattle.read_body.proofs.survey.read_groups.Tie as tie
+use Rattle.read_body.proofs.survey.enter_groups.Statement.{statement}
+use Rattle.read_body.proofs.survey.enter_groups.Tie as tie
 
 abbrev Inv-loop : tie.InvT-loop
 Inv-loop s places₀ records₀ seconds₀ table₀ n₀ at₀ places records seconds table n at =
@@ -28,7 +28,9 @@ returns c = record { run = sym (body-over _ (omega arith)); known = λ n e. not-
 
 loop-holds : tie.Need-loop-holds Inv-loop μ-loop
 unfolding groupPlace
-loop-holds c = (omega arith, (refl, (omega arith, (places-start _ _ refl, (insides-start _ _ _ refl refl, (marks-start _ _ (length-replicate {A = ℕ} 256 0), body-within _ (omega arith)))))))
+loop-holds c =
+    let p = c .before .before .pre in
+    (omega arith, (refl, (omega arith, (places-start _ _ (p .0), (insides-start _ _ _ (p .1 .0) (p .1 .1), (marks-start _ _ (length-replicate {A = ℕ} 256 0), body-within _ (omega arith)))))))
 
 group-turn-requires : tie.Need-group-turn-requires Inv-loop μ-loop
 group-turn-requires c κs = let l = c .before .before .loop in (l .inv .1 .0, (l .inv .1 .1 .0, (l .inv .0, (l .inv .1 .1 .1 .0, l .inv .1 .1 .1 .1 .1 .0))))
@@ -60,8 +62,8 @@ enum-told-2 c = search needs
 mul-places : tie.Need-mul-places Inv-loop μ-loop
 mul-places c = search needs
 
-array-write-places : tie.Need-array-write-places Inv-loop μ-loop
-array-write-places c =
+element-write-places : tie.Need-element-write-places Inv-loop μ-loop
+element-write-places c =
     let g = c .before .before in
     let l = g .before .before .before .loop in
     let more = more-within _ _ _ _ _ (g .group-turn .ensures) (l .inv .1 .0) (l .inv .1 .1 .0) (c .enum-told2 .given .1) in
@@ -78,8 +80,8 @@ cast-records c =
 mul-records : tie.Need-mul-records Inv-loop μ-loop
 mul-records c = search needs
 
-array-write-records : tie.Need-array-write-records Inv-loop μ-loop
-array-write-records c =
+element-write-records : tie.Need-element-write-records Inv-loop μ-loop
+element-write-records c =
     let e = c .before in
     let g = e .before .before in
     let l = g .before .before .before .loop in
@@ -97,8 +99,8 @@ cast-seconds c =
 mul-seconds : tie.Need-mul-seconds Inv-loop μ-loop
 mul-seconds c = search needs
 
-array-write-seconds : tie.Need-array-write-seconds Inv-loop μ-loop
-array-write-seconds c =
+element-write-seconds : tie.Need-element-write-seconds Inv-loop μ-loop
+element-write-seconds c =
     let e = c .before .before in
     let g = e .before .before in
     let l = g .before .before .before .loop in
@@ -169,8 +171,8 @@ loop-again c =
       ),
     )
 
-pub read-groups-spec : {M : Type 1} → statement M
-read-groups-spec =
+pub enter-groups-spec : {M : Type 1} → statement M
+enter-groups-spec =
     tie.close
     (tie.spec
     Inv-loop
@@ -184,13 +186,13 @@ read-groups-spec =
     returns-3
     enum-told-2
     mul-places
-    array-write-places
+    element-write-places
     cast-records
     mul-records
-    array-write-records
+    element-write-records
     cast-seconds
     mul-seconds
-    array-write-seconds
+    element-write-seconds
     add-at
     add-word-at
     word-at-requires
