@@ -1,0 +1,1 @@
+// What the proofs by hand share: it stands in proofs/.
