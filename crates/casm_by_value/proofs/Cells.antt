@@ -5,23 +5,17 @@ use Rattle.walk.proofs.Words.{ !, Given, _$_, _∵_, _⊛_, by, done, drop, feq
 use Rattle.walk.proofs.Words.{RattleType, Is, cellAt, mem, partAt, shares, partOf, usize, Array, array-lawful, arrayVal, array-apart, array-whole, row, whole-in, whole-out, at, cut-app, join-app}
 use Rattle.walk.proofs.Words.{tripleOf, Contract}
 use denote.Struct.Laws as LL
+use Rattle.walk.proofs.Records.{R, val}
 use Rattle.layout.specs.declared.record.Record.{Record}
 use Rattle.layout.proofs.record.Record as T
 use Rattle.casm_by_value.proofs.lent_of as lent
-
-abbrev pub R : RattleType
-R = T.the-row
-
--- a record's machine values
-abbrev pub vals : Record → List Val
-vals = LL.vals T.the-type T.Laws.the-laws
 
 abbrev pub AR : RattleType
 AR = Array R 32
 
 -- a table's machine value
 abbrev pub arrv : List Record → Val
-arrv xs = arrayVal (map (LL.val T.the-type T.Laws.the-laws) xs)
+arrv xs = arrayVal (map val xs)
 
 abbrev pub arrTy : Ty
 arrTy = tyArray T.Laws.mir 32

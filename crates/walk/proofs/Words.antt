@@ -1,4 +1,4 @@
--- The words of a proof by hand: it names them from here, and not from the forty modules of the logic that have them.
+-- The words of a proof by hand: it names them from here, and not from the sixty modules of the logic that have them.
 
 -- ---- numbers, tests and lists
 pub use mathlib.Core.Path.{_∙_, _≡_, ap, refl, subst, sym}

@@ -8,6 +8,7 @@ use Rattle.walk.proofs.Words.{owns, Is, shows, mem, partAt, pointee, partOf, ui
 use Rattle.walk.proofs.Words.{lends-slice, slice-back, at, length-take-le, same-len, room-take}
 use Rattle.walk.proofs.Words.{onEntry, Meets, tripleOf, Contract, Triple, calls-at, cited, entered, Stays, ends-at, goes-dropped, says, stay-dropped, walkOf, yes, Slot, plain, shrSliceOf, arrayOf}
 use denote.Struct.Laws as LL
+use Rattle.walk.proofs.Records.{R, vals}
 use Rattle.walk.proofs.Calls.{gives, gives-lent}
 use Rattle.walk.proofs.Meeting.{meets}
 use Rattle.layout.specs.Promises.{RecordsRead}
@@ -19,7 +20,7 @@ use Rattle.read_table.proofs.filled.read_records as read
 use Rattle.casm_by_value.specs.declared.Filled.{Filled}
 use Rattle.casm_by_value.proofs.Filled as B
 use Rattle.casm_by_value.proofs.Lending.{room-read}
-use Rattle.casm_by_value.proofs.Cells.{R, vals, AR, arrv, arrTy, typed, to-cells, from-cells, Lent, to-lent, goes-lent}
+use Rattle.casm_by_value.proofs.Cells.{AR, arrv, arrTy, typed, to-cells, from-cells, Lent, to-lent, goes-lent}
 use Rattle.casm_by_value.proofs.both as both
 use Rattle.casm_by_value.proofs.lent_of as lent
 use Rattle.casm_by_value.proofs.read_with_room as room′

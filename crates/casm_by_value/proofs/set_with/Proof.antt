@@ -6,6 +6,7 @@ use Rattle.walk.proofs.Words.{from, init, land, load, look, no-more, of-opd, pa
 use Rattle.walk.proofs.Words.{owns, Is, shows, cellAt, mem, partOf, uint-makes, uint-tells, uint-vals, u8, usize, MutRef, RefT, lends-ref, ref-back}
 use Rattle.walk.proofs.Words.{onEntry, Meets, tripleOf, Contract, Triple, calls-at, cited, entered, Stays, ends-at, goes-dropped, says, stay-dropped, walkOf, yes, Slot, plain}
 use denote.Struct.Laws as LL
+use Rattle.walk.proofs.Records.{R, val, vals}
 use Rattle.walk.proofs.Calls.{gives, gives-lent}
 use Rattle.walk.proofs.Meeting.{meets}
 use Rattle.layout.specs.Promises.{FieldSet, FieldSetInPlace}
@@ -17,14 +18,9 @@ use Rattle.layout.proofs.answer.Changed as S
 use Rattle.layout.proofs.answer.Answered as Q
 use Rattle.casm.proofs.field.set_in_place as place
 use Rattle.casm_by_value.proofs.Lending.{back-set}
-use Rattle.casm_by_value.proofs.Cells.{R, vals}
 use Rattle.casm_by_value.proofs.changed_of as both
 use Rattle.casm_by_value.proofs.set_with as with
 use Rattle.casm_by_value.proofs.set_with.Code as code
-
--- a record's machine value
-abbrev val : Record → Val
-val = LL.val T.the-type T.Laws.the-laws
 
 abbrev Rec : Slot 0
 Rec = plain (λ _. R)

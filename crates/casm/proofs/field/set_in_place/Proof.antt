@@ -3,9 +3,10 @@ use Rattle.walk.proofs.Words.{_≡_, ap, refl, _<_, _^_, ℕ, List, [], _∷_}
 use Rattle.walk.proofs.Words.{URA, fullShare, named, w64, w8, Val, vint, vptr, SProp, ent, GName, Lft, Share, fat, fbor, flft, fobs, ftrue, Memory, Routine, Calls, Heap, Loops, Tables, WpFn, Atoms, sem, Fun, givenOf, tables, tablesOf}
 use Rattle.walk.proofs.Words.{ !, Given, _$_, _∵_, _⊛_, by, done, drop, feqI, fjoin, fjoin3, frame, fsplit, fsplit3, join, keep, move, qed, raw, rewrite, split, suffices, use1, ‵, ⋆, alloc0, alloc1, and-then, assigns, enter, fld, forget, free0, free1, from, hop, init}
 use Rattle.walk.proofs.Words.{land, load, look, look-raw, no-more, of-opd, params1, pass0, pass1, returns, stop, store-raw, look-in, sub, whole, Body, FmC, fmOf, closes, nothing, only, opens, owned, peeks, spelt}
-use Rattle.walk.proofs.Words.{RattleType, owns, Is, shows, mem, uint-makes, uint-tells, uint-vals, u8, usize, MutRef, RefT, mut-tells, ptr-vals}
+use Rattle.walk.proofs.Words.{owns, Is, shows, mem, uint-makes, uint-tells, uint-vals, u8, usize, MutRef, RefT, mut-tells, ptr-vals}
 use Rattle.walk.proofs.Words.{onEntry, Meets, tripleOf, Contract, Triple, calls-at, cited, entered, Stays, ends-at, goes-none, goes-ref, says, stay-none, stay-ref, walkOf, yes, plain}
 use denote.Struct.Laws as LL
+use Rattle.walk.proofs.Records.{R, val, vals}
 use Rattle.walk.proofs.Calls.{gives}
 use Rattle.walk.proofs.Meeting.{meets}
 use Rattle.layout.specs.Promises.{FieldSet, FieldSetInPlace}
@@ -21,13 +22,7 @@ use Rattle.casm.proofs.field.answer_of as told
 use Rattle.casm.proofs.field.set_in_place as set′
 use Rattle.casm.proofs.field.set_in_place.Code as code
 
-abbrev R : RattleType
-R = T.the-row
-
--- a record's machine value, and that of what the setter by value returns
-abbrev val : Record → Val
-val = LL.val T.the-type T.Laws.the-laws
-
+-- the machine value of what the setter by value returns
 abbrev valC : Changed → Val
 valC = LL.val S.the-type S.Laws.the-laws
 
@@ -90,7 +85,7 @@ module _ {M : Type 1} (𝓤 : URA M) (H : Heap 𝓤) (A : Atoms 𝓤) (W : Given
         pass1 ! (init ! 8 refl (tt, tt)) $ pass1 ! (init ! 6 refl (tt, record { fits = n-fits })) $ pass1 ! (init ! 4 refl (tt, record { fits = v-fits })) $ pass0 ! $
         -- the borrow is opened
         move ! (13 ∷ []) $ fsplit ! $ fsplit3 ! $ drop ! $ move ! (15 ∷ []) $ split ! $ move ! (2 ∷ 3 ∷ 0 ∷ []) $
-        opens ! tt R {h = h} b o (λ vs. spelt ! R (Is R) (shows 𝓤 H A R) (LL.vals T.the-type T.Laws.the-laws) (LL.tells T.the-type T.Laws.the-laws) fullShare h vs b o $
+        opens ! tt R {h = h} b o (λ vs. spelt ! R (Is R) (shows 𝓤 H A R) (vals) (LL.tells T.the-type T.Laws.the-laws) fullShare h vs b o $
         move ! (1 ∷ []) $ peeks ! R (Is R) (shows 𝓤 H A R) h (val h ∷ []) (λ g. move ! (1 ∷ 0 ∷ []) $
         -- [the record's cell; what a Record owns; the open borrow; obs; auth; true; the others' facts; _5; …; _4; …; _3; …; _2; …; _1; …; room for _0; …]
         assigns ! (of-opd ! (load ! (from ! (hop ! (look ! 15 refl) (stop !))) (look-raw ! 0 refl))) (from ! (stop !)) (init ! 9 refl (LL.lawful T.the-type T.Laws.the-laws 𝓤 H A W .typed h _ g .0)) $

@@ -7,6 +7,7 @@ use Rattle.walk.proofs.Words.{owns, Is, shows, mem, partAt, pointee, partOf, ui
 use Rattle.walk.proofs.Words.{lends-shr-slice, length-take-le, room-take}
 use Rattle.walk.proofs.Words.{onEntry, Meets, tripleOf, Contract, Triple, calls-at, cited, entered, Stays, ends-at, goes-dropped, goes-slice, says, stay-dropped, stay-slice, walkOf, yes as kept, Slot, plain, shrSliceOf, arrayOf}
 use denote.Struct.Laws as LL
+use Rattle.walk.proofs.Records.{R, vals}
 use Rattle.walk.proofs.Calls.{gives, gives-lent}
 use Rattle.walk.proofs.Meeting.{meets}
 use Rattle.layout.specs.declared.answer.Measured.{Measured}
@@ -17,7 +18,7 @@ use Rattle.layout.proofs.record.Record as T
 use Rattle.write_table.proofs.write_group as write
 use Rattle.write_table.proofs.Again.{LentAgain, lends-again, comes-back}
 use Rattle.casm_by_value.proofs.Lending.{lent-all}
-use Rattle.casm_by_value.proofs.Cells.{R, vals, AR, arrv, arrTy, typed, Part, Rest, to-parts, from-parts, Lent, to-lent, goes-lent}
+use Rattle.casm_by_value.proofs.Cells.{AR, arrv, arrTy, typed, Part, Rest, to-parts, from-parts, Lent, to-lent, goes-lent}
 use Rattle.casm_by_value.proofs.lent_of as few
 use Rattle.casm_by_value.proofs.write.write_with as with′
 use Rattle.casm_by_value.proofs.write.write_with.Code as code

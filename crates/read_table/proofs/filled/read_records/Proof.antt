@@ -5,10 +5,11 @@ use Rattle.walk.proofs.Words.{URA, fullShare, Ty, imm, mut, named, tyBool, tyIn
 use Rattle.walk.proofs.Words.{Out, Tables, Wp, WpFn, afterBlock, afterSeq, atReturn, afterTurn, Atoms, sem, Fun, fact, givenOf, tables, tablesOf}
 use Rattle.walk.proofs.Words.{ !, Given, Item, Sq, _$_, _∵_, _⊛_, anyQ, atRet, by, done, drop, fjoin, frame, fsplit, join, keep, move, qed, raw, rewrite, runs, split, suffices, use1, use2, ‵, ⋆, Below, again, alloc0, alloc1, and-then, assigns, assigns-last, bin, blocks}
 use Rattle.walk.proofs.Words.{enter, exec, first, fld, forget, free0, free1, from, hop, init, land, leaves-loop, lit, load, look, loops, no-more, of-opd, params1, pass0, pass1, returns, stays, stop, store, store-raw, look-in, sub, whole, FmC, fmOf, nothing, only, owned, pureI}
-use Rattle.walk.proofs.Words.{RattleType, owns, Is, shows, pointee, uint-makes, uint-tells, uint-vals, u8, usize, RefT, MutSlice, Room, ShrSlice, at-slice, codedHoleys, heres, mut-slice-tells, shr-slice-copy, shr-slice-tells, slice-vals, sliceTy, sliceVal, Held}
-use Rattle.walk.proofs.Words.{closes-slice, elem-out, elem-put, opens-slice, place-is, row}
+use Rattle.walk.proofs.Words.{owns, Is, shows, pointee, uint-makes, uint-tells, uint-vals, u8, usize, RefT, MutSlice, Room, ShrSlice, at-slice, codedHoleys, heres, mut-slice-tells, shr-slice-copy, shr-slice-tells, slice-vals, sliceTy, sliceVal, Held, closes-slice}
+use Rattle.walk.proofs.Words.{elem-out, elem-put, opens-slice, place-is, row}
 use Rattle.walk.proofs.Words.{onEntry, Meets, tripleOf, Contract, Triple, calls-at, cited, entered, Stays, ends-at, goes-none, goes-none-slice, goes-slice, says, stay-none, stay-none-slice, stay-slice, walkOf, yes, plain}
 use denote.Struct.Laws as LL
+use Rattle.walk.proofs.Records.{R, vals}
 use Rattle.walk.proofs.Calls.{gives, gives-back}
 use Rattle.walk.proofs.Meeting.{meets}
 use Rattle.layout.specs.Promises.{RecordsRead}
@@ -29,12 +30,6 @@ use Rattle.read_table.proofs.RecordLaws.{filled, filled-none, filled-ne
 use Rattle.read_table.proofs.filled.read_records as read
 use Rattle.read_table.proofs.filled.read_records.Code as code
 use Rattle.read_table.proofs.filled.read_records.Code.Mir as mir
-
-abbrev R : RattleType
-R = T.the-row
-
-abbrev vals : Record → List Val
-vals = LL.vals T.the-type T.Laws.the-laws
 
 -- a plan's machine value
 abbrev valP : Reading → Val
