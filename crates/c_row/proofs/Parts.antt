@@ -1,12 +1,10 @@
 -- A row as the record that it stands for: its first 26 bytes are the record's, and its last two say which Cntt there is.
 use Prim.Native.Nat.{ℕ, _≤_}
-use mathlib.Core.Path.{_≡_, refl, sym, ap, _∙_}
+use mathlib.Core.Path.{_≡_, sym, ap, _∙_}
 use mathlib.Core.List.{List, [], _++_, append-nil}
 use native.Mathlib.Omega.{arith}
 use lib.ListN.{length, getD, take, drop, drop-of-length-le}
-use borrow.Author.Tests.{eq-eqb, ne-eqb}
 use Rattle.layout.specs.declared.record.SecondTable.{SecondTable}
-use Rattle.layout.specs.declared.record.SecondTable.the-variants.{Absent, Value}
 use Rattle.layout.specs.Records.{bytesOf, recordOf}
 use Rattle.layout.proofs.Records.{bytes-length}
 use Rattle.layout.proofs.BytesBack.{read-bytes}
@@ -31,15 +29,3 @@ module _ (row : List ℕ) where
   pub row-record : (second : SecondTable) → second ≡ secondOf (getD row 26 0) (getD row 27 0) → recordOf row second ≡ recordIn row
   unfolding recordIn
   row-record second e = ap (recordOf row) e
-
-  pub row-source : recordIn row .source .0 ≡ getD row 0 0
-  unfolding recordIn recordOf
-  row-source = refl
-
-  pub row-absent : getD row 26 0 ≡ 0 → recordIn row .second ≡ Absent
-  unfolding recordIn recordOf secondOf
-  row-absent e = rw (eq-eqb (getD row 26 0) 0 e)
-
-  pub row-value : (getD row 26 0 ≡ 0 → ⊥) → recordIn row .second ≡ Value (getD row 27 0)
-  unfolding recordIn recordOf secondOf
-  row-value n = rw (ne-eqb (getD row 26 0) 0 n)

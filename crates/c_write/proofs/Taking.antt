@@ -1,23 +1,25 @@
 -- The records of a flat table taken out one after the other: what they come to so far, and what is written so far.
 use Prim.Native.Nat.{ℕ, _+_, _-_, _*_, _≤_, _<_}
-use mathlib.Core.Path.{_≡_, sym, ap, ap₂, _∙_}
-use mathlib.Core.Bool.{Bool}
-use mathlib.Core.List.{List, _++_}
+use mathlib.Core.Path.{_≡_, sym, ap, ap₂, subst, _∙_}
+use mathlib.Core.List.{List}
 use native.Mathlib.Omega.{arith}
 use native.Mathlib.Numerals.{add-one}
-use lib.ListN.{length, getD, take, drop, length-append}
+use lib.ListN.{length, getD, take, drop}
 use Rattle.layout.specs.Edit.{replaced}
-use Rattle.layout.specs.Records.{blank}
+use Rattle.layout.specs.Records.{blank, recordOf}
+use Rattle.layout.specs.Write.{ctabBytes}
 use Rattle.layout.specs.declared.record.Record.{Record}
+use Rattle.layout.specs.declared.record.SecondTable.{SecondTable}
 use Rattle.layout.proofs.Lists.{rows-length, getD-rows}
-use Rattle.layout.proofs.Replaced.{replaced-none, replaced-length, replaced-twice}
 use Rattle.write_plan.specs.declared.Checked.{Checked}
 use Rattle.write_plan.specs.declared.Plan.{Plan}
-use Rattle.write_plan.specs.Checking.{begun, looked, lookedAt, planned, planOf}
-use Rattle.write_plan.specs.Chunks.{chunkOf, chunksOf}
-use Rattle.write_plan.proofs.Length.{length-most, records-within}
-use Rattle.write_plan.proofs.Passes.{chunks-none, chunks-most, chunks-next}
+use Rattle.write_plan.specs.declared.Taken.{Taken}
+use Rattle.write_plan.specs.Checking.{begun, recordsNever, Looking as Looked, looked, laidAfter, taken, takenAt, planned, planOf}
+use Rattle.write_plan.proofs.Length.{looking, records-within}
+use Rattle.write_chunks.proofs.Putting.{Putting, ctabs, ctabs-next}
 use Rattle.c_row.specs.Flat.{lentRows, recordIn, flatRecord, tableOf}
+use Rattle.c_row.specs.Rows.{secondOf}
+use Rattle.c_row.proofs.Parts.{row-record}
 
 pub table-length : (flat : List ℕ) → length (tableOf flat) ≡ lentRows (length flat)
 table-length flat = rows-length (flatRecord flat) 0 (lentRows (length flat))
@@ -34,87 +36,58 @@ stands : (flat : List ℕ) (i : ℕ) (row : List ℕ) → row ≡ take 28 (drop 
 unfolding flatRecord
 stands flat i row e = ap recordIn e
 
+-- a row looked at as its bytes and its last two
+pub row-looked : (x : Checked) (i : ℕ) (row : List ℕ) (second : SecondTable) (y : Checked) (before after : List ℕ) → second ≡ secondOf (getD row 26 0) (getD row 27 0)
+    → (y ≡ looked x i (recordOf row second)) × (after ≡ laidAfter before x i (recordOf row second))
+    → (y ≡ looked x i (recordIn row)) × (after ≡ laidAfter before x i (recordIn row))
+row-looked x i row second y before after e q =
+    let d = row-record row second e in
+    (q .0 ∙ ap (λ (r : Record). looked x i r) d, q .1 ∙ ap (λ (r : Record). laidAfter before x i r) d)
+
 -- ---- what the first i records come to
 
 module _ (text flat : List ℕ) (count : ℕ) where
-  abbrev start : Checked
+  abbrev start : Taken
   start = begun text (length (tableOf flat)) count
 
   -- .. and how many are to be looked at
-  pub record Looking (n i : ℕ) (x : Checked) : Type 0 where
-    pub whole : n ≡ start .records
+  pub record Looking (n i : ℕ) (x : Checked) (cntts : List ℕ) : Type 0 where
+    pub whole : n ≡ start .checked .records
     pub some : i ≤ n
-    pub so : x ≡ lookedAt start (tableOf flat) i
+    pub so : record { checked = x; cntts = cntts } ≡ takenAt start (tableOf flat) i
 
-  pub looking-start : (lent : ℕ) (x : Checked) → lent ≡ lentRows (length flat) → x ≡ begun text lent count → Looking (x .records) 0 x
-  unfolding lookedAt
-  looking-start lent x e h =
+  pub looking-start : (lent : ℕ) (t : Taken) → lent ≡ lentRows (length flat) → t ≡ begun text lent count → Looking (t .checked .records) 0 (t .checked) (t .cntts)
+  unfolding takenAt
+  looking-start lent t e h =
       let q = h ∙ ap (λ (k : ℕ). begun text k count) (e ∙ sym (table-length flat)) in
-      record { whole = ap (λ (y : Checked). y .records) q; some = omega arith; so = q }
+      record { whole = ap (λ (y : Taken). y .checked .records) q; some = omega arith; so = q }
 
-  module _ (n i : ℕ) (x : Checked) (l : Looking n i x) where
+  module _ (n i : ℕ) (x : Checked) (cntts : List ℕ) (l : Looking n i x cntts) where
     pub looking-lent : n ≤ lentRows (length flat)
     looking-lent = omega (arith, l .whole, records-within text (length (tableOf flat)) count, table-length flat)
 
-    pub looking-long : x .length ≤ 271 + 45 * i
-    looking-long = rw (l .so) (length-most text (length (tableOf flat)) count (tableOf flat) i)
+    pub looking-on : i < recordsNever → Looked x i
+    looking-on h = subst (λ (t : Taken). Looked (t .checked) i) (sym (l .so)) (looking text (length (tableOf flat)) count (tableOf flat) i h)
 
-    pub looking-next : (row : List ℕ) (y : Checked) → i < n → row ≡ take 28 (drop (28 * i) flat) → y ≡ looked x i (recordIn row) → Looking n (i + 1) y
-    unfolding lookedAt
-    looking-next row y h e q =
+    pub looking-next : (row : List ℕ) (y : Checked) (after : List ℕ) → i < n → row ≡ take 28 (drop (28 * i) flat)
+        → (y ≡ looked x i (recordIn row)) × (after ≡ laidAfter cntts x i (recordIn row)) → Looking n (i + 1) y after
+    unfolding takenAt
+    looking-next row y after h e q =
         let d = record-is flat i (recordIn row) (omega (arith, looking-lent)) (stands flat i row e) in
-        record { whole = l .whole; some = omega arith; so = rw (add-one i) (q ∙ ap₂ (λ (a : Checked) (b : Record). looked a i b) (l .so) d) }
+        let t : record { checked = y; cntts = after } ≡ taken (record { checked = x; cntts = cntts }) i (recordIn row) = ap₂ {C = Taken} (λ (a : Checked) (b : List ℕ). record { checked = a; cntts = b }) (q .0) (q .1) in
+        record { whole = l .whole; some = omega arith; so = rw (add-one i) (t ∙ ap₂ (λ (a : Taken) (b : Record). taken a i b) (l .so) d) }
 
-    pub looking-end : (room : ℕ) (p : Plan) → n ≤ i → p ≡ planned x room → p ≡ planOf text (tableOf flat) count room
+    pub looking-end : (room : ℕ) (p : Plan) → n ≤ i → p ≡ planned (record { checked = x; cntts = cntts }) room → p ≡ planOf text (tableOf flat) count room
     unfolding planOf
     looking-end room p h q =
-        let z : i ≡ start .records = omega (arith, l .some, l .whole) in
-        q ∙ ap (λ (a : Checked). planned a room) (l .so ∙ ap (lookedAt start (tableOf flat)) z)
+        let z : i ≡ start .checked .records = omega (arith, l .some, l .whole) in
+        q ∙ ap (λ (a : Taken). planned a room) (l .so ∙ ap (takenAt start (tableOf flat)) z)
 
--- ---- the chunks of the first i records
+-- ---- the Ctabs of the first i records
 
-module _ (flat : List ℕ) (n : ℕ) (old : List ℕ) (at : ℕ) (seconds : Bool) where
-  abbrev chunks : ℕ → List ℕ
-  chunks i = chunksOf seconds (take i (tableOf flat))
-
-  pub record Putting (now : List ℕ) (to i : ℕ) : Type 0 where
-    pub some : i ≤ n
-    pub place : to ≡ at + length (chunks i)
-    pub so : now ≡ replaced old at (chunks i)
-
-  pub putting-start : Putting old at 0
-  putting-start =
-      let e = chunks-none seconds (tableOf flat) in
-      record { some = omega arith; place = omega (arith, ap length e); so = sym (replaced-none old at (chunks 0) e) }
-
-  module _ (lent : n ≤ lentRows (length flat)) (room : at + length (chunks n) ≤ length old) (now : List ℕ) (to i : ℕ) (p : Putting now to i) where
-    pub putting-long : length now ≡ length old
-    putting-long = ap length (p .so) ∙ replaced-length old at (chunks i) (omega (arith, room, chunks-most seconds (tableOf flat) i n (p .some)))
-
-    module _ (h : i < n) (row : List ℕ) (e : row ≡ take 28 (drop (28 * i) flat)) where
-      abbrev r : Record
-      r = recordIn row
-
-      more : chunks (i + 1) ≡ chunks i ++ chunkOf seconds r
-      more =
-          chunks-next seconds (tableOf flat) i (omega (arith, table-length flat, lent))
-          ∙ ap (λ (a : Record). chunks i ++ chunkOf seconds a) (sym (record-is flat i r (omega (arith, lent)) (stands flat i row e)))
-
-      pub putting-room : to + length (chunkOf seconds r) ≤ length now
-      putting-room =
-          omega (arith, p .place, putting-long, ap length more, length-append (chunks i) (chunkOf seconds r), chunks-most seconds (tableOf flat) (i + 1) n (omega arith), room)
-
-      pub putting-next : (m : ℕ) (after : List ℕ) → m ≡ to + length (chunkOf seconds r) → after ≡ replaced now to (chunkOf seconds r) → Putting after m (i + 1)
-      putting-next m after q s =
-          record {
-            some = omega arith;
-            place = omega (arith, q, p .place, ap length more, length-append (chunks i) (chunkOf seconds r));
-            so =
-                s
-                ∙ ap₂ (λ (a : List ℕ) (k : ℕ). replaced a k (chunkOf seconds r)) (p .so) (p .place)
-                ∙ replaced-twice old at (chunks i) (chunkOf seconds r) (omega (arith, room))
-                ∙ ap (replaced old at) (sym more);
-          }
-
-    pub putting-end : n ≤ i → (to ≡ at + length (chunks n)) × (now ≡ replaced old at (chunks n))
-    putting-end h = let z : i ≡ n = omega (arith, p .some) in (p .place ∙ ap (λ (k : ℕ). at + length (chunks k)) z, p .so ∙ ap (λ (k : ℕ). replaced old at (chunks k)) z)
+module _ (flat : List ℕ) (n : ℕ) (old : List ℕ) (at : ℕ) (lent : n ≤ lentRows (length flat)) (room : at + 35 * n ≤ length old) where
+  pub taking-next : (now : List ℕ) (i : ℕ) → Putting (ctabs (tableOf flat)) old at n now i → i < n
+      → (row after : List ℕ) → row ≡ take 28 (drop (28 * i) flat) → after ≡ replaced now (at + 35 * i) (ctabBytes (recordIn row)) → Putting (ctabs (tableOf flat)) old at n after (i + 1)
+  taking-next now i p h row after e s =
+      let d = record-is flat i (recordIn row) (omega (arith, lent)) (stands flat i row e) in
+      ctabs-next (tableOf flat) old at n (omega (arith, table-length flat, lent)) room now i p h after (s ∙ ap (λ (r : Record). replaced now (at + 35 * i) (ctabBytes r)) d)

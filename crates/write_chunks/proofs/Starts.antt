@@ -1,6 +1,6 @@
--- The start of a group by its plan: nothing on refusal, else the group's header and its Sdec.
-use Prim.Native.Nat.{ℕ, _+_, _-_}
-use mathlib.Core.Path.{_≡_, refl, _∙_, ap}
+-- What a plan writes without the records: nothing on refusal, else the group's header and its Sdec, and its Cntts.
+use Prim.Native.Nat.{ℕ, _+_, _*_, _-_}
+use mathlib.Core.Path.{_≡_, refl, _∙_, ap, ap₂}
 use mathlib.Core.List.{List, _++_}
 use native.Mathlib.Omega.{arith}
 use lib.ListN.{length, drop}
@@ -9,6 +9,7 @@ use Rattle.layout.specs.Bytes.{CSEG, Sdec, four, chunk}
 use Rattle.layout.specs.Edit.{replaced}
 use Rattle.write_plan.specs.declared.Plan.{Plan}
 use Rattle.write_plan.specs.Checking.{startPlace, startBytes}
+use Rattle.write_plan.specs.Chunks.{cnttsDown, framed}
 
 module _ (text out : List ℕ) (p : Plan) where
   pub start-none : (p .number ≡ 0 → ⊥) → (0 ≡ startPlace text p) × (out ≡ replaced out 0 (startBytes text p))
@@ -21,3 +22,9 @@ module _ (text out : List ℕ) (p : Plan) where
   start-put last z e =
       let q : 16 + length text ≡ 0 + length (CSEG ++ (four (p .length - 8) ++ chunk Sdec text)) = omega arith in
       rw (eq-eqb (p .number) 0 z) (refl, e ∙ ap (λ (k : ℕ). CSEG ++ (four (p .length - 8) ++ (chunk Sdec text ++ drop k out))) q)
+
+  -- .. and the Cntts behind the room of the Ctabs
+  pub frame-put : (one two : List ℕ) (m : ℕ) → (m ≡ startPlace text p) × (one ≡ replaced out 0 (startBytes text p)) → two ≡ replaced one (m + 35 * p .records) (cnttsDown (p .cntts) (p .seconds))
+      → (m ≡ startPlace text p) × (two ≡ framed text p out)
+  unfolding framed
+  frame-put one two m a e = (a .0, e ∙ ap₂ (λ (l : List ℕ) (k : ℕ). replaced l (k + 35 * p .records) (cnttsDown (p .cntts) (p .seconds))) (a .1) (a .0))

@@ -1,22 +1,19 @@
 -- The chunks behind their headers, as they come about.
 use Prim.Native.Nat.{ℕ, _+_, _-_, _≤_}
 use mathlib.Core.Path.{_≡_, refl, sym, _∙_, ap, ap₂}
-use mathlib.Core.Bool.{Bool, true, false}
 use mathlib.Core.List.{List, [], _∷_, _++_, append-assoc}
 use native.Mathlib.Omega.{arith}
 use lib.ListN.{length, getD, set, drop, length-append}
 use lib.Seq.{drop-cons, set-append-seam}
-use borrow.Rule.Slice.PartMut.{midOf, putMid, mid-len}
+use borrow.Rule.Slice.PartMut.{midOf, putMid}
 use Rattle.layout.specs.declared.record.Record.{Record}
-use Rattle.layout.specs.declared.record.SecondTable.the-variants.{Absent, Value}
+use Rattle.layout.specs.declared.record.SecondTable.the-variants.{Value}
 use Rattle.layout.specs.Bytes.{four, chunk, CSEG, Sdec, Ctab}
-use Rattle.layout.specs.Records.{bytesOf, channelOf, fileBytes}
-use Rattle.layout.proofs.Replaced.{replaced-none}
+use Rattle.layout.specs.Records.{bytesOf, fileBytes}
 use Rattle.layout.proofs.Ctabs.{ctab-tag}
 use Rattle.layout.proofs.Groups.{sdec-tag, cseg-tag}
 use Rattle.layout.specs.Edit.{replaced}
 use Rattle.layout.specs.Write.{ctabBytes, cnttBytes}
-use Rattle.write_plan.specs.Chunks.{chunkOf}
 use Rattle.write_chunks.proofs.Tails.{tail-written, tail-replaced}
 
 -- bytes 0-25, and 00 stored behind them
@@ -71,29 +68,18 @@ pub cntt-stored : (channel v : ℕ) (old xs : List ℕ) → 10 ≤ length old �
 unfolding four chunk cnttBytes
 cntt-stored channel v old xs h q = rw (q, drop-cons old 8 0 (omega arith), drop-cons old 9 0 (omega arith))
 
--- ---- the chunk of a record in place of what stands there
+-- ---- chunks in place of what stands there
 
--- what is lent is long enough
-module _ (old : List ℕ) (at : ℕ) (r : Record) (seconds : Bool) where
-  pub ctab-fits : seconds ≡ false → at + length (chunkOf seconds r) ≤ length old → 35 ≤ length (midOf at (length old - at) old)
-  unfolding chunkOf ctabBytes chunk four fileBytes bytesOf
-  ctab-fits e h = let z : at + 35 ≤ length old = rw e at h in omega (arith, mid-len at (length old) old (omega arith))
+module _ (old : List ℕ) (to : ℕ) (l : to ≤ length old) where
+  pub ctab-placed : (b ys : List ℕ) → length b ≡ 26 → ys ≡ chunk Ctab (b ++ (0 ∷ [])) ++ drop 35 (midOf to (length old - to) old) → putMid to (length old - to) old ys ≡ replaced old to (chunk Ctab (b ++ (0 ∷ [])))
+  unfolding chunk four
+  ctab-placed b ys z w = tail-replaced old (chunk Ctab (b ++ (0 ∷ []))) ys to 35 l (omega (arith, length-append b (0 ∷ []))) w
 
-  pub cntt-fits : (v : ℕ) → seconds ≡ true → r .second ≡ Value v → at + length (chunkOf seconds r) ≤ length old → 10 ≤ length (midOf at (length old - at) old)
-  unfolding chunkOf cnttBytes chunk four
-  cntt-fits v e f h = let z : at + 10 ≤ length old = rw (e, f) at h in omega (arith, mid-len at (length old) old (omega arith))
+  pub cntt-placed : (channel v : ℕ) (ys : List ℕ) → ys ≡ cnttBytes channel (Value v) ++ drop 10 (midOf to (length old - to) old) → putMid to (length old - to) old ys ≡ replaced old to (cnttBytes channel (Value v))
+  unfolding cnttBytes chunk four
+  cntt-placed channel v ys w = tail-replaced old (cnttBytes channel (Value v)) ys to 10 l refl w
 
-module _ (old : List ℕ) (at : ℕ) (r : Record) (l : at ≤ length old) where
-  pub ctab-replaced : (seconds : Bool) (b ys : List ℕ) → seconds ≡ false → b ≡ bytesOf r → ys ≡ chunk Ctab (b ++ (0 ∷ [])) ++ drop 35 (midOf at (length old - at) old)
-      → (at + 35 ≡ at + length (chunkOf seconds r)) × (putMid at (length old - at) old ys ≡ replaced old at (chunkOf seconds r))
-  unfolding chunkOf ctabBytes chunk four fileBytes bytesOf
-  ctab-replaced seconds b ys e f w = rw e (refl, tail-replaced old (ctabBytes r) ys at 35 l refl (rw f at w))
-
-  pub cntt-replaced : (seconds : Bool) (v : ℕ) (ys : List ℕ) → seconds ≡ true → r .second ≡ Value v → ys ≡ cnttBytes (r .source .0) (Value v) ++ drop 10 (midOf at (length old - at) old)
-      → (at + 10 ≡ at + length (chunkOf seconds r)) × (putMid at (length old - at) old ys ≡ replaced old at (chunkOf seconds r))
-  unfolding chunkOf cnttBytes chunk four channelOf
-  cntt-replaced seconds v ys e f w = rw (e, f) (refl, tail-replaced old (cnttBytes (channelOf r) (Value v)) ys at 10 l refl w)
-
-  pub none-replaced : (seconds : Bool) → seconds ≡ true → r .second ≡ Absent → (at ≡ at + length (chunkOf seconds r)) × (old ≡ replaced old at (chunkOf seconds r))
-  unfolding chunkOf cnttBytes
-  none-replaced seconds e f = rw (e, f) (omega arith, sym (replaced-none old at [] refl))
+-- a record's Ctab from its bytes
+pub ctab-of : (r : Record) (b : List ℕ) → b ≡ bytesOf r → chunk Ctab (b ++ (0 ∷ [])) ≡ ctabBytes r
+unfolding ctabBytes fileBytes
+ctab-of r b e = rw e

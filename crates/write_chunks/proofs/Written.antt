@@ -1,86 +1,94 @@
 -- What the steps of the writer leave in the buffer is what the definition writes there.
-use Prim.Native.Nat.{ℕ, _+_, _-_, _≤_}
-use mathlib.Core.Path.{_≡_, refl, _∙_, ap}
+use Prim.Native.Nat.{ℕ, _+_, _*_, _-_, _≤_}
+use mathlib.Core.Path.{_≡_, refl, sym, _∙_, ap, ap₂}
 use mathlib.Core.Logic.{_⊎_, inl, inr}
-use mathlib.Core.Bool.{true, false}
 use mathlib.Core.List.{List, _++_, flatMap, append-assoc}
 use native.Mathlib.Omega.{arith}
 use lib.ListN.{length, take, drop, length-append}
+use lib.Seq.{take-take, take-append-le, drop-at, length-take-le}
 use borrow.Author.Tests.{ne-eqb}
 use Rattle.layout.specs.declared.record.Record.{Record}
 use Rattle.layout.specs.Bytes.{CSEG, Sdec, four, chunk}
 use Rattle.layout.specs.Answers.{numberOf, placeOf, valueOr, lentAfter, measured}
 use Rattle.layout.specs.Edit.{replaced}
-use Rattle.layout.specs.Write.{payloadBytes, groupBytes, groupFrom}
+use Rattle.layout.specs.Lists.{rows}
+use Rattle.layout.specs.Write.{ctabBytes, payloadBytes, groupBytes, groupFrom}
 use Rattle.layout.specs.Promises.{GroupWritten}
-use Rattle.layout.proofs.Replaced.{replaced-start, replaced-twice}
+use Rattle.layout.proofs.Replaced.{replaced-start, replaced-length, replaced-twice}
 use Rattle.write_plan.specs.declared.Plan.{Plan}
-use Rattle.write_plan.specs.Chunks.{chunkOf, chunksOf}
+use Rattle.write_plan.specs.Chunks.{cnttsDown, framed}
 use Rattle.write_plan.specs.Checking.{noPlan, planOf, measuredBy, startPlace, startBytes}
-use Rattle.write_plan.proofs.Planning.{group-length, NotPlanned, Planned, plan-says}
+use Rattle.write_plan.proofs.Down.{cnttOf, cntts-length}
+use Rattle.write_plan.proofs.Planning.{ctabs-length, group-length, NotPlanned, Planned, plan-says}
 
 -- what is so of every plan: each step has the room that it asks for
 pub record PlanFits (text : List ℕ) (rs : List Record) (room : ℕ) (p : Plan) : Type 0 where
   pub start : p .number ≡ 0 → (16 + length text ≤ p .length) × (p .length ≤ room)
   pub within : p .records ≤ length rs
-  pub ctabs : startPlace text p + length (chunksOf false (take (p .records) rs)) ≤ room
-  pub cntts : startPlace text p + length (chunksOf false (take (p .records) rs)) + length (chunksOf true (take (p .records) rs)) ≤ room
+  pub chunks : startPlace text p + 35 * p .records + 10 * p .seconds ≤ room
+  pub few : p .seconds ≤ 16
 
 module _ (text : List ℕ) (rs : List Record) (room number place : ℕ) (z : number ≡ 0 → ⊥) where
   none-fits : PlanFits text rs room (noPlan number place)
-  unfolding noPlan startPlace chunksOf flatMap
-  none-fits = record { start = λ e. absurd (z e); within = omega arith; ctabs = rw (ne-eqb number 0 z) (omega arith); cntts = rw (ne-eqb number 0 z) (omega arith) }
+  unfolding noPlan startPlace
+  none-fits = record { start = λ e. absurd (z e); within = omega arith; chunks = rw (ne-eqb number 0 z) (omega arith); few = omega arith }
 
-abbrev accepting : List ℕ → List Record → ℕ → Plan
-accepting text rs count = record { number = 0; place = 0; records = count; length = length (groupBytes (groupFrom text rs count)) }
+abbrev accepting : List ℕ → List Record → ℕ → ℕ → List ℕ → Plan
+accepting text rs count seconds cntts = record { number = 0; place = 0; records = count; length = length (groupBytes (groupFrom text rs count)); seconds = seconds; cntts = cntts }
 
-module _ (text : List ℕ) (rs : List Record) (count room : ℕ) (h : count ≤ length rs) (f : length (groupBytes (groupFrom text rs count)) ≤ room) where
-  whole-fits : PlanFits text rs room (accepting text rs count)
+module _ (text : List ℕ) (rs : List Record) (count : ℕ) (h : count ≤ length rs) (seconds : ℕ) (cntts : List ℕ) (down : cnttsDown cntts seconds ≡ flatMap cnttOf (take count rs)) where
+  whole-length : length (groupBytes (groupFrom text rs count)) ≡ 16 + length text + 35 * count + 10 * seconds
+  whole-length = omega (arith, group-length text (take count rs), length-take-le count rs h, ap length down, cntts-length cntts seconds)
+
+  whole-fits : (room : ℕ) → seconds ≤ 16 → length (groupBytes (groupFrom text rs count)) ≤ room → PlanFits text rs room (accepting text rs count seconds cntts)
   unfolding startPlace
-  whole-fits =
-      let l = group-length text (take count rs) in
-      record { start = λ e. (omega (arith, l), f); within = h; ctabs = omega (arith, l, f); cntts = omega (arith, l, f) }
+  whole-fits room few f =
+      let l = whole-length in
+      record { start = λ e. (omega (arith, l), f); within = h; chunks = omega (arith, l, f); few = few }
 
 pub plan-fits : (text : List ℕ) (rs : List Record) (count room : ℕ) → PlanFits text rs room (planOf text rs count room)
 plan-fits text rs count room = go (plan-says text rs count room)
   where
     go : NotPlanned text rs count room (planOf text rs count room) ⊎ Planned text rs count room (planOf text rs count room) → PlanFits text rs room (planOf text rs count room)
     go (inl a) = rw (a .plan) (none-fits text rs room (a .number) (a .place) (a .refusal))
-    go (inr b) = rw (b .plan) (whole-fits text rs count room (b .within) (b .fits))
+    go (inr b) = rw (b .plan) (whole-fits text rs count (b .within) (b .seconds) (b .cntts) (b .down) room (b .few) (b .fits))
 
 -- ---- the buffer
 
--- three parts written one behind the other
-steps : (a b d out : List ℕ) (i j : ℕ) → length a ≡ i → i + length b ≡ j → replaced (replaced (replaced out 0 a) i b) j d ≡ ((a ++ b) ++ d) ++ drop (length ((a ++ b) ++ d)) out
-steps a b d out i j e f =
+-- bytes b behind the room of a, and then a, are a ++ b
+replaced-ahead : (s : List ℕ) (k : ℕ) (a b : List ℕ) → k + length a ≤ length s → replaced (replaced s (k + length a) b) k a ≡ replaced s k (a ++ b)
+unfolding replaced
+replaced-ahead s k a b h =
+    let n : ℕ = k + length a in
+    let rest : List ℕ = b ++ drop (n + length b) s in
+    let l : length (take n s) ≡ n = length-take-le n s h in
+    let front : take k (take n s ++ rest) ≡ take k s = take-append-le k (take n s) rest (omega (arith, l)) ∙ take-take k n s (omega arith) in
+    let z : n + length b ≡ k + length (a ++ b) = omega (arith, length-append a b) in
+    ap₂ (λ (x y : List ℕ). x ++ (a ++ y)) front (drop-at (take n s) rest n l ∙ ap (λ (m : ℕ). b ++ drop m s) z)
+    ∙ ap (λ (x : List ℕ). take k s ++ x) (sym (append-assoc a b (drop (k + length (a ++ b)) s)))
+
+-- the start, the part behind the room of the middle one, and the middle one
+steps : (a b d out : List ℕ) (i : ℕ) → length a ≡ i → i + length b ≤ length out → replaced (replaced (replaced out 0 a) (i + length b) d) i b ≡ (a ++ (b ++ d)) ++ drop (length (a ++ (b ++ d))) out
+steps a b d out i e f =
     let y : i ≡ 0 + length a = omega (arith, e) in
-    let z : j ≡ 0 + length (a ++ b) = omega (arith, e, f, length-append a b) in
-    rw (y, z, replaced-twice out 0 a b (omega arith), replaced-twice out 0 (a ++ b) d (omega arith)) (replaced-start out ((a ++ b) ++ d))
+    replaced-ahead (replaced out 0 a) i b d (omega (arith, replaced-length out 0 a (omega arith)))
+    ∙ (ap (λ (k : ℕ). replaced (replaced out 0 a) k (b ++ d)) y ∙ (replaced-twice out 0 a (b ++ d) (omega arith) ∙ replaced-start out (a ++ (b ++ d))))
 
-parted : (a b c d e : List ℕ) → ((a ++ (b ++ c)) ++ d) ++ e ≡ a ++ (b ++ (c ++ (d ++ e)))
-parted a b c d e =
-    append-assoc (a ++ (b ++ c)) d e ∙ (append-assoc a (b ++ c) (d ++ e) ∙ ap (λ (t : List ℕ). a ++ t) (append-assoc b c (d ++ e)))
-
--- the group's header and Sdec, then the Ctabs, then the Cntts
+-- the frame, and the Ctabs in the room left for them
 abbrev pub buffer : List ℕ → List Record → List ℕ → Plan → List ℕ
-buffer text rs out p =
-    replaced (replaced (replaced out 0 (startBytes text p)) (startPlace text p) (chunksOf false (take (p .records) rs)))
-    (startPlace text p + length (chunksOf false (take (p .records) rs))) (chunksOf true (take (p .records) rs))
+buffer text rs out p = replaced (framed text p out) (startPlace text p) (flatMap ctabBytes (take (p .records) rs))
 
 module _ (text : List ℕ) (rs : List Record) (out : List ℕ) where
   none-written : (number place : ℕ) → (number ≡ 0 → ⊥) → buffer text rs out (noPlan number place) ≡ out
-  unfolding noPlan startPlace startBytes replaced chunksOf flatMap
+  unfolding noPlan framed startPlace startBytes replaced cnttsDown rows flatMap
   none-written number place z = rw (ne-eqb number 0 z)
 
-  module _ (count : ℕ) where
+  module _ (count : ℕ) (h : count ≤ length rs) (seconds : ℕ) (cntts : List ℕ) (down : cnttsDown cntts seconds ≡ flatMap cnttOf (take count rs)) (room : length (groupBytes (groupFrom text rs count)) ≤ length out) where
     abbrev front : List ℕ
     front = CSEG ++ (four (length (groupBytes (groupFrom text rs count)) - 8) ++ chunk Sdec text)
 
     abbrev ctabs : List ℕ
-    ctabs = chunksOf false (take count rs)
-
-    abbrev cntts : List ℕ
-    cntts = chunksOf true (take count rs)
+    ctabs = flatMap ctabBytes (take count rs)
 
     front-length : length front ≡ 16 + length text
     unfolding chunk four
@@ -90,16 +98,22 @@ module _ (text : List ℕ) (rs : List Record) (out : List ℕ) where
     unfolding groupBytes chunk four
     ahead = omega arith
 
-    inside-is : CSEG ++ (four (length (payloadBytes (groupFrom text rs count))) ++ (chunk Sdec text ++ (ctabs ++ cntts))) ≡ groupBytes (groupFrom text rs count)
-    unfolding groupBytes payloadBytes chunk chunksOf chunkOf
+    inside-is : CSEG ++ (four (length (payloadBytes (groupFrom text rs count))) ++ (chunk Sdec text ++ (ctabs ++ flatMap cnttOf (take count rs)))) ≡ groupBytes (groupFrom text rs count)
+    unfolding groupBytes payloadBytes chunk
     inside-is = refl
 
-    group-is : (front ++ ctabs) ++ cntts ≡ groupBytes (groupFrom text rs count)
-    group-is = rw ahead (parted CSEG (four (length (payloadBytes (groupFrom text rs count)))) (chunk Sdec text) ctabs cntts ∙ inside-is)
+    group-is : front ++ (ctabs ++ cnttsDown cntts seconds) ≡ groupBytes (groupFrom text rs count)
+    group-is =
+        let sized = four (length (payloadBytes (groupFrom text rs count))) in
+        let behind = ctabs ++ flatMap cnttOf (take count rs) in
+        rw (ahead, down) (append-assoc CSEG (sized ++ chunk Sdec text) behind ∙ (ap (λ (t : List ℕ). CSEG ++ t) (append-assoc sized (chunk Sdec text) behind) ∙ inside-is))
 
-    whole-written : buffer text rs out (accepting text rs count) ≡ groupBytes (groupFrom text rs count) ++ drop (length (groupBytes (groupFrom text rs count))) out
-    unfolding startPlace startBytes
-    whole-written = steps front ctabs cntts out (16 + length text) (16 + length text + length ctabs) front-length refl ∙ ap (λ (b : List ℕ). b ++ drop (length b) out) group-is
+    whole-written : buffer text rs out (accepting text rs count seconds cntts) ≡ groupBytes (groupFrom text rs count) ++ drop (length (groupBytes (groupFrom text rs count))) out
+    unfolding framed startPlace startBytes
+    whole-written =
+        let l : length ctabs ≡ 35 * count = omega (arith, ctabs-length (take count rs), length-take-le count rs h) in
+        rw (← l) (steps front ctabs (cnttsDown cntts seconds) out (16 + length text) front-length (omega (arith, whole-length text rs count h seconds cntts down)))
+        ∙ ap (λ (b : List ℕ). b ++ drop (length b) out) group-is
 
 -- ---- the promise
 
@@ -109,4 +123,4 @@ plan-written text rs count out p e = go (plan-says text rs count (length out))
   where
     go : NotPlanned text rs count (length out) (planOf text rs count (length out)) ⊎ Planned text rs count (length out) (planOf text rs count (length out)) → GroupWritten text rs count out (measuredBy p) (buffer text rs out p)
     go (inl a) = rw (e, a .plan) (record { answer = rw (a .answer); buffer = none-written text rs out (a .number) (a .place) (a .refusal) ∙ rw (a .answer) })
-    go (inr b) = rw (e, b .plan) (record { answer = rw (b .answer); buffer = whole-written text rs out count ∙ rw (b .answer) })
+    go (inr b) = rw (e, b .plan) (record { answer = rw (b .answer); buffer = whole-written text rs out count (b .within) (b .seconds) (b .cntts) (b .down) (b .fits) ∙ rw (b .answer) })

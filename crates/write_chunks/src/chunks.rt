@@ -5,23 +5,16 @@ ghost use Prim.Native.Nat.{_+_, _≤_};
 ghost use lib.ListN.{length, drop};
 ghost use Rattle.layout.specs.Bytes.{CSEG, Sdec, Ctab, four, chunk};
 ghost use Rattle.layout.specs.declared.record.SecondTable.the-variants.{Value};
-ghost use Rattle.layout.specs.Edit.{replaced};
 ghost use Rattle.layout.specs.Write.{cnttBytes};
-ghost use Rattle.write_plan.specs.Chunks.{chunkOf};
 use crate::put::put_bytes;
 use crate::put::put_head;
 use crate::put::put_held;
-use layout::record::Record;
-use layout::record::SecondTable;
 use layout::size::CNTT_BYTES;
-use layout::size::CNTT_STRIDE;
-use layout::size::CTAB_STRIDE;
 use layout::size::RECORD;
 use layout::tag::CNTT;
 use layout::tag::CSEG;
 use layout::tag::CTAB;
 use layout::tag::SDEC;
-use read_record::held::bytes_of;
 
 // An Sdec: its text behind its header.
 fn put_sdec(out: &mut [u8], text: &[u8])
@@ -58,25 +51,4 @@ pub fn put_cntt(out: &mut [u8], channel: u8, v: u8)
     put_head(out, CNTT, CNTT_BYTES);
     out[8] = channel;
     out[9] = v;
-}
-
-// The chunk of a record at `at`, and the place behind it: its Ctab, or, where `seconds`, its Cntt if it has one.
-pub fn put_chunk(out: &mut [u8], at: usize, r: Record, seconds: bool) -> usize
-    requires { ⌜ at + length (chunkOf seconds r) ≤ length (now out) ⌝ }
-    ensures { λ m. ⌜ (m ≡ at + length (chunkOf seconds r)) × (now (out .exit) ≡ replaced (now (out .entry)) at (chunkOf seconds r)) ⌝ }
-{
-    if !seconds {
-        let b = bytes_of(r);
-        put_ctab(&mut out[at..], &b);
-        return at + CTAB_STRIDE;
-    }
-    let source = r.source;
-    let second = r.second;
-    match second {
-        SecondTable::Absent => at,
-        SecondTable::Value(v) => {
-            put_cntt(&mut out[at..], source.0, v);
-            at + CNTT_STRIDE
-        }
-    }
 }

@@ -1,7 +1,7 @@
 pub mod Bits
 pub mod Seen
+pub mod Down
 pub mod Looking
 pub mod Length
-pub mod Passes
 pub mod Running
 pub mod Planning

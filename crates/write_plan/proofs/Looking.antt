@@ -1,6 +1,6 @@
 -- What may be written: one law for each way out.
 use Prim.Native.Nat.{ℕ, _+_, _*_, _-_, _^_, _≤_, _<_}
-use mathlib.Core.Path.{_≡_, ap, _∙_}
+use mathlib.Core.Path.{_≡_, refl, sym, ap, ap₂, _∙_}
 use mathlib.Core.Bool.{true, false}
 use mathlib.Core.List.{List}
 use native.Mathlib.Omega.{arith}
@@ -11,25 +11,25 @@ use Rattle.layout.specs.declared.record.Record.{Record}
 use Rattle.layout.specs.declared.record.SecondTable.{SecondTable}
 use Rattle.layout.specs.declared.record.SecondTable.the-variants.{Absent, Value}
 use Rattle.layout.specs.Plays.{bit}
-use Rattle.layout.specs.declared.edition.Edition.the-variants.{First}
 use Rattle.layout.specs.Records.{bytesOf, recordOf, channelOf, badByte, firstBad}
 use Rattle.layout.specs.Sdec.{soundText}
 use Rattle.layout.proofs.Records.{ranged, ranged-channel}
 use Rattle.write_plan.specs.declared.Checked.{Checked}
-use Rattle.write_plan.specs.Checking.{refusedAt, begun, chunksSize, looked, noPlan, planned}
+use Rattle.write_plan.specs.declared.Taken.{Taken}
+use Rattle.write_plan.specs.Checking.{refusedAt, firstChecked, chunksSize, cnttCount, laidDown, looked, laidAfter, taken, noPlan, planned}
 
 module _ (text : List ℕ) (lent count : ℕ) where
-  pub begun-many : lent < count → begun text lent count ≡ refusedAt 16 0
-  unfolding begun
+  pub begun-many : lent < count → firstChecked text lent count ≡ refusedAt 16 0
+  unfolding firstChecked
   begun-many h = rw (lt-ltb lent count h)
 
   module _ (h : count ≤ lent) where
-    pub begun-bad : soundText text ≡ false → begun text lent count ≡ refusedAt 8 0
-    unfolding begun
+    pub begun-bad : soundText text ≡ false → firstChecked text lent count ≡ refusedAt 8 0
+    unfolding firstChecked
     begun-bad e = rw (le-ltb lent count h, e)
 
-    pub begun-sound : soundText text ≡ true → begun text lent count ≡ record { number = 0; place = 0; records = count; length = 16 + length text; seen = 0 }
-    unfolding begun
+    pub begun-sound : soundText text ≡ true → firstChecked text lent count ≡ record { number = 0; place = 0; records = count; length = 16 + length text; seen = 0; seconds = 0 }
+    unfolding firstChecked
     begun-sound e = rw (le-ltb lent count h, e)
 
 -- a record with no bad byte has a source channel below sixteen
@@ -40,21 +40,28 @@ channel-low r k e h = ranged-channel r (ranged r (rw (← e) h))
 pub channel-shift : (r : Record) (k : ℕ) → k ≡ firstBad r → 26 ≤ k → channelOf r < 64
 channel-shift r k e h = omega (arith, channel-low r k e h)
 
+-- a record has at most one Cntt
+pub count-most : (second : SecondTable) → cnttCount second ≤ 1
+unfolding cnttCount
+count-most Absent = omega arith
+count-most (Value v) = omega arith
+
 -- a record's chunks are at most 45 bytes
 pub size-most : (second : SecondTable) → chunksSize second ≤ 45
 unfolding chunksSize
 size-most Absent = omega arith
 size-most (Value v) = omega arith
 
+-- .. a Ctab, and its Cntts
+pub sizes-is : (second : SecondTable) → chunksSize second ≡ 35 + 10 * cnttCount second
+unfolding chunksSize cnttCount
+sizes-is Absent = refl
+sizes-is (Value v) = refl
+
 module _ (x : Checked) (i : ℕ) (r : Record) where
   pub looked-stays : (x .number ≡ 0 → ⊥) → looked x i r ≡ x
   unfolding looked
   looked-stays h = rw (ne-eqb (x .number) 0 h)
-
-  -- its bytes 0-25 and its second table are all that is looked at
-  pub looked-held : (b : List ℕ) (y : Checked) → b ≡ bytesOf r → y ≡ looked x i (recordOf b (r .second)) → y ≡ looked x i r
-  unfolding looked firstBad badByte channelOf bytesOf recordOf
-  looked-held b y e q = q ∙ ap (λ (l : List ℕ). looked x i (recordOf l (r .second))) e
 
   module _ (z : x .number ≡ 0) (k : ℕ) (e : k ≡ firstBad r) where
     pub looked-bad : k < 26 → looked x i r ≡ refusedAt 9 (27 * i + k)
@@ -66,21 +73,44 @@ module _ (x : Checked) (i : ℕ) (r : Record) where
       unfolding looked
       looked-again d = rw (eq-eqb (x .number) 0 z, ← e, le-ltb k 26 h, d)
 
-      pub looked-on : (size seen : ℕ) → bit (x .seen) (channelOf r) ≡ false → size ≡ chunksSize (r .second) → seen ≡ bitOr (x .seen) (2 ^ channelOf r)
-          → looked x i r ≡ record { number = 0; place = 0; records = x .records; length = x .length + size; seen = seen }
+      pub looked-on : (size seen more : ℕ) → bit (x .seen) (channelOf r) ≡ false → size ≡ chunksSize (r .second) → seen ≡ bitOr (x .seen) (2 ^ channelOf r) → more ≡ cnttCount (r .second)
+          → looked x i r ≡ record { number = 0; place = 0; records = x .records; length = x .length + size; seen = seen; seconds = x .seconds + more }
       unfolding looked
-      looked-on size seen d q s = rw (eq-eqb (x .number) 0 z, ← e, le-ltb k 26 h, d, q, s)
+      looked-on size seen more d q s m = rw (eq-eqb (x .number) 0 z, ← e, le-ltb k 26 h, d, q, s, m)
 
-module _ (x : Checked) (room : ℕ) where
-  pub planned-not : (x .number ≡ 0 → ⊥) → planned x room ≡ noPlan (x .number) (x .place)
+-- ---- the Cntts laid down after it
+
+module _ (c : List ℕ) (x : Checked) (i : ℕ) (r : Record) where
+  pub after-stays : (x .number ≡ 0 → ⊥) → c ≡ laidAfter c x i r
+  unfolding laidAfter
+  after-stays h = sym (rw (looked-stays x i r h, ne-eqb (x .number) 0 h))
+
+  pub after-refused : (number place : ℕ) → (number ≡ 0 → ⊥) → looked x i r ≡ refusedAt number place → c ≡ laidAfter c x i r
+  unfolding laidAfter refusedAt
+  after-refused number place z e = sym (rw (e, ne-eqb number 0 z))
+
+  pub after-on : (y : Checked) (d : List ℕ) → looked x i r ≡ y → y .number ≡ 0 → d ≡ laidDown c (x .seconds) (channelOf r) (r .second) → d ≡ laidAfter c x i r
+  unfolding laidAfter
+  after-on y d e z q = q ∙ sym (rw (e, eq-eqb (y .number) 0 z))
+
+-- its bytes 0-25 and its second table are all that is looked at
+pub taken-held : (t : Taken) (i : ℕ) (r : Record) (b : List ℕ) (y : Checked) (c : List ℕ) → b ≡ bytesOf r
+    → (y ≡ looked (t .checked) i (recordOf b (r .second))) × (c ≡ laidAfter (t .cntts) (t .checked) i (recordOf b (r .second))) → record { checked = y; cntts = c } ≡ taken t i r
+unfolding laidAfter looked firstBad badByte channelOf recordOf bytesOf
+taken-held t i r b y c e q =
+    ap₂ {C = Taken} (λ (a : Checked) (l : List ℕ). record { checked = a; cntts = l }) (q .0 ∙ ap (λ (l : List ℕ). looked (t .checked) i (recordOf l (r .second))) e)
+    (q .1 ∙ ap (λ (l : List ℕ). laidAfter (t .cntts) (t .checked) i (recordOf l (r .second))) e)
+
+module _ (t : Taken) (room : ℕ) where
+  pub planned-not : (t .checked .number ≡ 0 → ⊥) → planned t room ≡ noPlan (t .checked .number) (t .checked .place)
   unfolding planned
-  planned-not h = rw (ne-eqb (x .number) 0 h)
+  planned-not h = rw (ne-eqb (t .checked .number) 0 h)
 
-  module _ (z : x .number ≡ 0) where
-    pub planned-short : room < x .length → planned x room ≡ noPlan 14 0
+  module _ (z : t .checked .number ≡ 0) where
+    pub planned-short : room < t .checked .length → planned t room ≡ noPlan 14 0
     unfolding planned
-    planned-short h = rw (eq-eqb (x .number) 0 z, lt-ltb room (x .length) h)
+    planned-short h = rw (eq-eqb (t .checked .number) 0 z, lt-ltb room (t .checked .length) h)
 
-    pub planned-fits : x .length ≤ room → planned x room ≡ record { number = 0; place = 0; records = x .records; length = x .length }
+    pub planned-fits : t .checked .length ≤ room → planned t room ≡ record { number = 0; place = 0; records = t .checked .records; length = t .checked .length; seconds = t .checked .seconds; cntts = t .cntts }
     unfolding planned
-    planned-fits h = rw (eq-eqb (x .number) 0 z, le-ltb room (x .length) h)
+    planned-fits h = rw (eq-eqb (t .checked .number) 0 z, le-ltb room (t .checked .length) h)

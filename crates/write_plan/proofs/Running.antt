@@ -1,6 +1,6 @@
 -- The records looked at one by one come to what the definition's run comes to.
 use Prim.Native.Nat.{ℕ, zero, suc, _+_, _*_, _^_, _≤_, _<_}
-use mathlib.Core.Path.{_≡_, refl, sym, _∙_, ap}
+use mathlib.Core.Path.{_≡_, refl, sym, _∙_}
 use mathlib.Core.Logic.{_⊎_, inl, inr}
 use mathlib.Core.Bool.{Bool, true, false}
 use mathlib.Core.List.{List}
@@ -9,35 +9,25 @@ use native.Mathlib.Decide.{decLt}
 use native.Mathlib.Numerals.{add-one}
 use lib.Bits.{bitOr}
 use lib.Dec.{ltb, eqb}
-use lib.ListN.{length, getD, take, length-append}
-use borrow.Author.Tests.{lt-ltb, le-ltb}
+use lib.ListN.{length, getD}
+use borrow.Author.Tests.{eqb-false, ltb-false, lt-ltb, le-ltb}
 use Rattle.layout.specs.declared.record.Record.{Record}
 use Rattle.layout.specs.declared.turn.Turn.{Turn}
 use Rattle.layout.specs.declared.turn.Turn.the-variants.{Refused, More}
 use Rattle.layout.specs.declared.turn.Run.the-variants.{Stopped}
 use Rattle.layout.specs.Scan.{first, run}
 use Rattle.layout.specs.Plays.{bit}
-use Rattle.layout.specs.declared.edition.Edition.the-variants.{First}
 use Rattle.layout.specs.Records.{blank, channelOf, firstBad}
 use Rattle.layout.specs.Write.{recordOn, recordTurn}
 use Rattle.layout.proofs.Runs.{run-stop, run-more}
+use Rattle.layout.proofs.Scans.{first-passed}
+use Rattle.layout.proofs.Sixteen.{Channels, at-most-sixteen}
 use Rattle.write_plan.specs.declared.Checked.{Checked}
-use Rattle.write_plan.specs.Chunks.{chunkOf, chunksOf}
-use Rattle.write_plan.specs.Checking.{refusedAt, chunksSize, looked, lookedAt}
+use Rattle.write_plan.specs.declared.Taken.{Taken}
+use Rattle.write_plan.specs.Checking.{refusedAt, chunksSize, cnttCount, looked, taken, takenAt}
 use Rattle.write_plan.proofs.Seen.{Seen, seen-next}
-use Rattle.write_plan.proofs.Looking.{channel-low, looked-stays, looked-bad, looked-again, looked-on}
-use Rattle.write_plan.proofs.Passes.{chunks-next, chunk-sizes}
-
--- the chunks of records, Ctabs and Cntts
-abbrev pub sizes : List Record → ℕ
-sizes rs = length (chunksOf false rs) + length (chunksOf true rs)
-
-sizes-next : (rs : List Record) (i : ℕ) → i < length rs → sizes (take (i + 1) rs) ≡ sizes (take i rs) + chunksSize (getD rs i blank .second)
-sizes-next rs i h =
-    let a = ap length (chunks-next false rs i h) ∙ length-append (chunksOf false (take i rs)) (chunkOf false (getD rs i blank)) in
-    let b = ap length (chunks-next true rs i h) ∙ length-append (chunksOf true (take i rs)) (chunkOf true (getD rs i blank)) in
-    let d = chunk-sizes (getD rs i blank) in
-    omega (arith, a, b, d)
+use Rattle.write_plan.proofs.Down.{Down, down-step}
+use Rattle.write_plan.proofs.Looking.{channel-low, sizes-is, looked-stays, looked-bad, looked-again, looked-on, after-on}
 
 -- ---- a turn of the definition's run
 
@@ -57,6 +47,21 @@ module _ (rs : List Record) (i : ℕ) where
   unfolding recordTurn recordOn
   turn-more h e = rw (le-ltb (firstBad r) 26 h, e)
 
+-- one more source channel, below sixteen and fresh
+channels-next : (chan : ℕ → ℕ) (n : ℕ) → Channels chan n → chan n < 16 → ltb (first (λ j. eqb (chan j) (chan n)) 0 n) n ≡ false → Channels chan (n + 1)
+channels-next chan n a low fresh = record { low = λ i h. below i h (decLt i n); apart = λ i j h l. other i j h l (decLt j n) }
+  where
+    below : (i : ℕ) → i < n + 1 → Dec (i < n) → chan i < 16
+    below i h (yes d) = a .low i d
+    below i h (no d) = let q : i ≡ n = omega arith in rw q low
+
+    other : (i j : ℕ) → i < j → j < n + 1 → Dec (j < n) → chan i ≡ chan j → ⊥
+    other i j h l (yes d) = a .apart i j h d
+    other i j h l (no d) =
+        let q : j ≡ n = omega arith in
+        let z = ltb-false (first (λ k. eqb (chan k) (chan n)) 0 n) n fresh in
+        rw q (eqb-false (chan i) (chan n) (first-passed (λ k. eqb (chan k) (chan n)) n i (omega arith)))
+
 -- ---- what is so before record number i
 
 module _ (rs : List Record) where
@@ -70,11 +75,13 @@ module _ (rs : List Record) where
   chan j = channelOf (getD rs j blank)
 
   -- no refusal yet
-  pub record Going (start i : ℕ) (x : Checked) : Type 0 where
-    pub number : x .number ≡ 0
-    pub records : x .records ≡ n
-    pub seen : Seen chan i (x .seen)
-    pub size : x .length ≡ start + sizes (take i rs)
+  pub record Going (start i : ℕ) (t : Taken) : Type 0 where
+    pub number : t .checked .number ≡ 0
+    pub records : t .checked .records ≡ n
+    pub seen : Seen chan i (t .checked .seen)
+    pub channels : Channels chan i
+    pub down : Down rs i (t .checked .seconds) (t .cntts)
+    pub size : t .checked .length ≡ start + 35 * i + 10 * t .checked .seconds
     pub rest : run turn 0 n ≡ run turn i n
 
   -- a refusal, which is the run's
@@ -85,18 +92,21 @@ module _ (rs : List Record) where
   stays : (x : Checked) (i : ℕ) (r : Record) → Halted x → Halted (looked x i r)
   stays x i r h = rw (looked-stays x i r (h .number)) h
 
-  module _ (start i : ℕ) (x : Checked) (l : i < n) (g : Going start i x) where
+  module _ (start i : ℕ) (t : Taken) (l : i < n) (g : Going start i t) where
+    abbrev x : Checked
+    x = t .checked
+
     abbrev here : Record
     here = getD rs i blank
 
     refused : (number place : ℕ) → (number ≡ 0 → ⊥) → turn i ≡ Refused number place → looked x i here ≡ refusedAt number place → Halted (looked x i here)
     unfolding refusedAt
-    refused number place z t e = rw e (record { number = z; stopped = g .rest ∙ run-stop turn i n number place l t })
+    refused number place z s e = rw e (record { number = z; stopped = g .rest ∙ run-stop turn i n number place l s })
 
-    step : Going start (i + 1) (looked x i here) ⊎ Halted (looked x i here)
+    step : Going start (i + 1) (taken t i here) ⊎ Halted (looked x i here)
     step = go (decLt (firstBad here) 26) (bit (x .seen) (channelOf here)) refl
       where
-        go : Dec (firstBad here < 26) → (b : Bool) → bit (x .seen) (channelOf here) ≡ b → Going start (i + 1) (looked x i here) ⊎ Halted (looked x i here)
+        go : Dec (firstBad here < 26) → (b : Bool) → bit (x .seen) (channelOf here) ≡ b → Going start (i + 1) (taken t i here) ⊎ Halted (looked x i here)
         go (yes a) b e = inr (refused 9 (27 * i + firstBad here) (omega arith) (turn-bad rs i a) (looked-bad x i here (g .number) (firstBad here) refl a))
         go (no a) true e =
             let h : 26 ≤ firstBad here = omega arith in
@@ -106,20 +116,25 @@ module _ (rs : List Record) where
             let h : 26 ≤ firstBad here = omega arith in
             let low = channel-low here (firstBad here) refl h in
             let fresh = sym (g .seen .each (channelOf here) low) ∙ e in
-            inl (rw (looked-on x i here (g .number) (firstBad here) refl h (chunksSize (here .second)) (bitOr (x .seen) (2 ^ channelOf here)) e refl refl) (record {
+            let channels = channels-next chan i (g .channels) low fresh in
+            let few : i + 1 ≤ 16 = at-most-sixteen chan (i + 1) channels in
+            let on = looked-on x i here (g .number) (firstBad here) refl h (chunksSize (here .second)) (bitOr (x .seen) (2 ^ channelOf here)) (cnttCount (here .second)) e refl refl refl in
+            inl (rw (← (after-on (t .cntts) x i here _ _ on refl refl), on) (record {
               number = refl;
               records = g .records;
               seen = seen-next chan i (channelOf here) (x .seen) (g .seen) refl;
-              size = omega (arith, g .size, sizes-next rs i l);
+              channels = channels;
+              down = down-step rs i (x .seconds) (t .cntts) l (omega arith) (g .down);
+              size = omega (arith, g .size, sizes-is (here .second));
               rest = g .rest ∙ run-more turn i n l (turn-more rs i h fresh);
             }))
 
   -- the first i records looked at, one after the other
-  pub going : (start : ℕ) (x : Checked) → Going start 0 x → (i : ℕ) → i ≤ n → Going start i (lookedAt x rs i) ⊎ Halted (lookedAt x rs i)
-  unfolding lookedAt
-  going start x g zero h = inl g
-  going start x g (suc i) h = go (going start x g i (omega arith))
+  pub going : (start : ℕ) (t : Taken) → Going start 0 t → (i : ℕ) → i ≤ n → Going start i (takenAt t rs i) ⊎ Halted (takenAt t rs i .checked)
+  unfolding takenAt
+  going start t g zero h = inl g
+  going start t g (suc i) h = go (going start t g i (omega arith))
     where
-      go : Going start i (lookedAt x rs i) ⊎ Halted (lookedAt x rs i) → Going start (suc i) (looked (lookedAt x rs i) i (getD rs i blank)) ⊎ Halted (looked (lookedAt x rs i) i (getD rs i blank))
-      go (inl a) = rw (← (add-one i)) (step start i (lookedAt x rs i) (omega arith) a)
-      go (inr b) = inr (stays (lookedAt x rs i) i (getD rs i blank) b)
+      go : Going start i (takenAt t rs i) ⊎ Halted (takenAt t rs i .checked) → Going start (suc i) (taken (takenAt t rs i) i (getD rs i blank)) ⊎ Halted (looked (takenAt t rs i .checked) i (getD rs i blank))
+      go (inl a) = rw (← (add-one i)) (step start i (takenAt t rs i) (omega arith) a)
+      go (inr b) = inr (stays (takenAt t rs i .checked) i (getD rs i blank) b)

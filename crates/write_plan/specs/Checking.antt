@@ -1,10 +1,10 @@
--- What the records looked at so far come to: a refusal, or which source channels they have (a bit for each) and the group's length so far.
+-- What the records looked at so far come to: a refusal, or which source channels they have (a bit for each), the group's length so far, and their Cntts, laid down in the order of their Ctabs.
 use Prim.Native.Nat.{ℕ, zero, suc, _+_, _*_, _-_, _^_, _<_, _≤_}
 use mathlib.Core.Bool.{cond, not}
 use mathlib.Core.List.{List, [], _++_}
 use lib.Bits.{bitOr}
 use lib.Dec.{ltb, eqb}
-use lib.ListN.{length, getD}
+use lib.ListN.{length, getD, set, replicate}
 use Rattle.layout.specs.declared.answer.Measured.{Measured}
 use Rattle.layout.specs.declared.record.Record.{Record}
 use Rattle.layout.specs.declared.record.SecondTable.{SecondTable}
@@ -16,23 +16,42 @@ use Rattle.layout.specs.Editions.{size, held}
 use Rattle.layout.specs.Records.{blank, channelOf, editionOf, firstBad}
 use Rattle.layout.specs.Sdec.{soundText}
 use Rattle.write_plan.specs.declared.Checked.{Checked}
+use Rattle.write_plan.specs.declared.Taken.{Taken}
 use Rattle.write_plan.specs.declared.Plan.{Plan}
 
 -- a refusal: no record is to be looked at
 unfoldable pub refusedAt : ℕ → ℕ → Checked
-refusedAt number place = record { number = number; place = place; records = 0; length = 0; seen = 0 }
+refusedAt number place = record { number = number; place = place; records = 0; length = 0; seen = 0; seconds = 0 }
 
 -- before the first of the records of a lent table of so many: 16, then 8
-unfoldable pub begun : List ℕ → ℕ → ℕ → Checked
-begun text lent count =
+unfoldable pub firstChecked : List ℕ → ℕ → ℕ → Checked
+firstChecked text lent count =
     cond (ltb lent count) (refusedAt badNumber 0)
     (cond (not (soundText text)) (refusedAt badText 0)
-    (record { number = accepted; place = 0; records = count; length = 16 + length text; seen = 0 }))
+    (record { number = accepted; place = 0; records = count; length = 16 + length text; seen = 0; seconds = 0 }))
+
+-- no Cntt laid down
+abbrev pub noCntts : List ℕ
+noCntts = replicate 32 0
+
+abbrev pub begun : List ℕ → ℕ → ℕ → Taken
+begun text lent count = record { checked = firstChecked text lent count; cntts = noCntts }
 
 -- the bytes of a record's chunks: its Ctab, and its Cntt where it has one
 unfoldable pub chunksSize : SecondTable → ℕ
 chunksSize Absent = 35
 chunksSize (Value v) = 45
+
+-- how many Cntts a record has
+unfoldable pub cnttCount : SecondTable → ℕ
+cnttCount Absent = 0
+cnttCount (Value v) = 1
+
+-- the Cntt of a record laid down with those before: that of number k, from 0 to 15, has its channel at 2 * k and its value behind it
+unfoldable pub laidDown : List ℕ → ℕ → ℕ → SecondTable → List ℕ
+laidDown cntts number channel Absent = cntts
+laidDown cntts number channel (Value v) =
+    cond (ltb number 16) (set (set cntts (2 * number) channel) (2 * number + 1) v) cntts
 
 -- more records than any memory lends: a slice has fewer than 2^63 bytes, and a record or a row takes 28 of them or more
 abbrev pub recordsNever : ℕ
@@ -40,7 +59,7 @@ recordsNever = 340000000000000000
 
 -- where record number i is looked at next: memory lends that many, and what is seen is no longer than a group with a text of 255 bytes and i records with their Cntts
 abbrev pub Looking : Checked → ℕ → Type 0
-Looking x i = (i < recordsNever) × (x .length ≤ 271 + 45 * i)
+Looking x i = (i < recordsNever) × ((x .length ≤ 271 + 45 * i) × (x .seconds ≤ i))
 
 -- record number i looked at: 9, then 10; a refusal stays
 unfoldable pub looked : Checked → ℕ → Record → Checked
@@ -48,23 +67,39 @@ looked x i r =
     cond (not (eqb (x .number) accepted)) x
     (cond (ltb (firstBad r) (held (editionOf r))) (refusedAt outOfRange (size (editionOf r) * i + firstBad r))
     (cond (bit (x .seen) (channelOf r)) (refusedAt channelAgain (size (editionOf r) * i))
-    (record { number = accepted; place = 0; records = x .records; length = x .length + chunksSize (r .second); seen = bitOr (x .seen) (2 ^ channelOf r) })))
+    (record {
+      number = accepted;
+      place = 0;
+      records = x .records;
+      length = x .length + chunksSize (r .second);
+      seen = bitOr (x .seen) (2 ^ channelOf r);
+      seconds = x .seconds + cnttCount (r .second);
+    })))
 
--- the first n records looked at
-unfoldable pub lookedAt : Checked → List Record → ℕ → Checked
-lookedAt x rs zero = x
-lookedAt x rs (suc n) = looked (lookedAt x rs n) n (getD rs n blank)
+-- the Cntts laid down after it: where it is accepted, its own behind those before
+unfoldable pub laidAfter : List ℕ → Checked → ℕ → Record → List ℕ
+laidAfter cntts x i r = cond (eqb (looked x i r .number) accepted) (laidDown cntts (x .seconds) (channelOf r) (r .second)) cntts
+
+-- both
+abbrev pub taken : Taken → ℕ → Record → Taken
+taken t i r = record { checked = looked (t .checked) i r; cntts = laidAfter (t .cntts) (t .checked) i r }
+
+-- the first n records
+unfoldable pub takenAt : Taken → List Record → ℕ → Taken
+takenAt t rs zero = t
+takenAt t rs (suc n) = taken (takenAt t rs n) n (getD rs n blank)
 
 -- a plan that refuses
 unfoldable pub noPlan : ℕ → ℕ → Plan
-noPlan number place = record { number = number; place = place; records = 0; length = 0 }
+noPlan number place = record { number = number; place = place; records = 0; length = 0; seconds = 0; cntts = noCntts }
 
 -- all records looked at, and so much room: 14 comes last
-unfoldable pub planned : Checked → ℕ → Plan
-planned x room =
+unfoldable pub planned : Taken → ℕ → Plan
+planned t room =
+    let x = t .checked in
     cond (not (eqb (x .number) accepted)) (noPlan (x .number) (x .place))
     (cond (ltb room (x .length)) (noPlan noRoom 0)
-    (record { number = accepted; place = 0; records = x .records; length = x .length }))
+    (record { number = accepted; place = 0; records = x .records; length = x .length; seconds = x .seconds; cntts = t .cntts }))
 
 -- the answer of a plan
 unfoldable pub measuredBy : Plan → Measured
@@ -83,5 +118,5 @@ startBytes text p = cond (eqb (p .number) accepted) (CSEG ++ (four (p .length - 
 -- the plan for a text, a lent table, a count and so much room
 unfoldable pub planOf : List ℕ → List Record → ℕ → ℕ → Plan
 planOf text rs count room =
-    let x = begun text (length rs) count in
-    planned (lookedAt x rs (x .records)) room
+    let t = begun text (length rs) count in
+    planned (takenAt t rs (t .checked .records)) room

@@ -3,8 +3,9 @@ ghost use mathlib.Core.Path.{_≡_};
 ghost use Prim.Native.Nat.{_≤_};
 ghost use lib.ListN.{length};
 ghost use Rattle.layout.specs.Records.{recordOf};
-ghost use Rattle.write_plan.specs.Checking.{refusedAt, begun, chunksSize, Looking, looked, noPlan, planned, measuredBy};
+ghost use Rattle.write_plan.specs.Checking.{refusedAt, firstChecked, begun, chunksSize, cnttCount, laidDown, Looking, looked, laidAfter, taken, noPlan, planned, measuredBy};
 use layout::answer::Measured;
+use layout::limit::CHANNELS;
 use layout::record::Record;
 use layout::record::SecondTable;
 use layout::refusal::BAD_NUMBER;
@@ -12,6 +13,7 @@ use layout::refusal::BAD_TEXT;
 use layout::refusal::CHANNEL_AGAIN;
 use layout::refusal::NO_ROOM;
 use layout::refusal::OUT_OF_RANGE;
+use layout::size::CNTT_BYTES;
 use layout::size::CTAB_AND_CNTT;
 use layout::size::CTAB_STRIDE;
 use layout::size::HELD;
@@ -20,21 +22,30 @@ use read_record::held::bytes_of;
 use read_record::held::first_bad_of;
 
 // What the records looked at so far come to: a refusal, or how many are to be looked at in all, the group's length with those seen,
-// and which source channels they have: bit k of `seen` is set where one has channel k.
+// which source channels they have (bit k of `seen` is set where one has channel k), and how many of them have a Cntt.
 pub struct Checked {
     pub number: u8,
     pub place: usize,
     pub records: usize,
     pub length: usize,
     pub seen: u64,
+    pub seconds: usize,
 }
 
-// What writing comes to: the refusal, or how many records go into a group of so many bytes.
+// That, and their Cntts laid down: the channel of Cntt number k, from 0, at 2 * k, and its value behind it.
+pub struct Taken {
+    pub checked: Checked,
+    pub cntts: [u8; 32],
+}
+
+// What writing comes to: the refusal, or how many records go into a group of so many bytes, and its Cntts, laid down.
 pub struct Plan {
     pub number: u8,
     pub place: usize,
     pub records: usize,
     pub length: usize,
+    pub seconds: usize,
+    pub cntts: [u8; 32],
 }
 
 fn refused_at(number: u8, place: usize) -> Checked
@@ -46,12 +57,13 @@ fn refused_at(number: u8, place: usize) -> Checked
         records: 0,
         length: 0,
         seen: 0,
+        seconds: 0,
     }
 }
 
 // Before the first record: 16 where the count exceeds the lent table, then 8.
-pub fn begin(text: &[u8], lent: usize, count: usize) -> Checked
-    ensures { λ r. ⌜ r ≡ begun (now (text .entry)) lent count ⌝ }
+fn first_checked(text: &[u8], lent: usize, count: usize) -> Checked
+    ensures { λ r. ⌜ r ≡ firstChecked (now (text .entry)) lent count ⌝ }
 {
     if lent < count {
         return refused_at(BAD_NUMBER, 0);
@@ -65,6 +77,18 @@ pub fn begin(text: &[u8], lent: usize, count: usize) -> Checked
         records: count,
         length: 16 + text.len(),
         seen: 0,
+        seconds: 0,
+    }
+}
+
+// .. with no Cntt laid down.
+pub fn begin(text: &[u8], lent: usize, count: usize) -> Taken
+    ensures { λ r. ⌜ r ≡ begun (now (text .entry)) lent count ⌝ }
+{
+    let checked = first_checked(text, lent, count);
+    Taken {
+        checked: checked,
+        cntts: [0; 32],
     }
 }
 
@@ -78,11 +102,43 @@ fn chunks_size(second: SecondTable) -> usize
     }
 }
 
+// How many Cntts a record has.
+fn cntt_count(second: SecondTable) -> usize
+    ensures { λ r. ⌜ r ≡ cnttCount second ⌝ }
+{
+    match second {
+        SecondTable::Absent => 0,
+        SecondTable::Value(_) => 1,
+    }
+}
+
+// The Cntt of a record laid down under a number, in place; a group has no more of them than source channels.
+fn lay_down(cntts: &mut [u8; 32], number: usize, channel: u8, second: SecondTable)
+    ensures { λ _. ⌜ now (cntts .exit) ≡ laidDown (now (cntts .entry)) number channel second ⌝ }
+{
+    match second {
+        SecondTable::Absent => {}
+        SecondTable::Value(v) => {
+            if number < CHANNELS {
+                let at = CNTT_BYTES * number;
+                cntts[at] = channel;
+                cntts[at + 1] = v;
+            }
+        }
+    }
+}
+
 // Record number i, whose bytes 0-25 stand at the start of b: its first byte out of range, then a source channel that an earlier record has.
-// A refusal stays.
-pub fn look_at_bytes(x: Checked, i: usize, b: &[u8], second: SecondTable) -> Checked
+// Where it is accepted, its Cntt is laid down behind those before. A refusal stays.
+pub fn look_at_bytes(
+    x: Checked,
+    i: usize,
+    b: &[u8],
+    second: SecondTable,
+    cntts: &mut [u8; 32],
+) -> Checked
     requires { ⌜ (26 ≤ length (now b)) × Looking x i ⌝ }
-    ensures { λ y. ⌜ y ≡ looked x i (recordOf (now (b .entry)) second) ⌝ }
+    ensures { λ y. ⌜ (y ≡ looked x i (recordOf (now (b .entry)) second)) × (now (cntts .exit) ≡ laidAfter (now (cntts .entry)) x i (recordOf (now (b .entry)) second)) ⌝ }
 {
     if x.number != 0 {
         return x;
@@ -95,23 +151,31 @@ pub fn look_at_bytes(x: Checked, i: usize, b: &[u8], second: SecondTable) -> Che
     if (x.seen >> channel) % 2 == 1 {
         return refused_at(CHANNEL_AGAIN, RECORD * i);
     }
+    lay_down(cntts, x.seconds, b[0], second);
     Checked {
         number: 0,
         place: 0,
         records: x.records,
         length: x.length + chunks_size(second),
         seen: x.seen | 1u64 << channel,
+        seconds: x.seconds + cntt_count(second),
     }
 }
 
 // Record number i, in memory.
-pub fn look_at(x: Checked, i: usize, r: Record) -> Checked
-    requires { ⌜ Looking x i ⌝ }
-    ensures { λ y. ⌜ y ≡ looked x i r ⌝ }
+pub fn look_at(x: Taken, i: usize, r: Record) -> Taken
+    requires { ⌜ Looking (x .checked) i ⌝ }
+    ensures { λ y. ⌜ y ≡ taken x i r ⌝ }
 {
     let second = r.second;
     let b = bytes_of(r);
-    look_at_bytes(x, i, &b, second)
+    let before = x.checked;
+    let mut cntts = x.cntts;
+    let after = look_at_bytes(before, i, &b, second, &mut cntts);
+    Taken {
+        checked: after,
+        cntts: cntts,
+    }
 }
 
 fn no_plan(number: u8, place: usize) -> Plan
@@ -122,24 +186,30 @@ fn no_plan(number: u8, place: usize) -> Plan
         place: place,
         records: 0,
         length: 0,
+        seconds: 0,
+        cntts: [0; 32],
     }
 }
 
 // All records looked at: 14 where the room is smaller than the group.
-pub fn plan_for(x: Checked, room: usize) -> Plan
+pub fn plan_for(x: Taken, room: usize) -> Plan
     ensures { λ r. ⌜ r ≡ planned x room ⌝ }
 {
-    if x.number != 0 {
-        return no_plan(x.number, x.place);
+    let c = x.checked;
+    let cntts = x.cntts;
+    if c.number != 0 {
+        return no_plan(c.number, c.place);
     }
-    if room < x.length {
+    if room < c.length {
         return no_plan(NO_ROOM, 0);
     }
     Plan {
         number: 0,
         place: 0,
-        records: x.records,
-        length: x.length,
+        records: c.records,
+        length: c.length,
+        seconds: c.seconds,
+        cntts: cntts,
     }
 }
 

@@ -1,12 +1,13 @@
-// Passes over a lent table of records: what writing them comes to, and their chunks one after the other (document 01, "Writing and editing").
+// Passes over a lent table of records: what writing them comes to, and their Ctabs one after the other (document 01, "Writing and editing").
 ghost use mathlib.Core.Path.{_≡_};
-ghost use Prim.Native.Nat.{_+_, _≤_};
+ghost use mathlib.Core.List.{flatMap};
+ghost use Prim.Native.Nat.{_+_, _*_, _≤_};
 ghost use lib.ListN.{length, take};
 ghost use Rattle.layout.specs.Edit.{replaced};
+ghost use Rattle.layout.specs.Write.{ctabBytes};
 ghost use Rattle.write_plan.specs.Checking.{planOf};
-ghost use Rattle.write_plan.specs.Chunks.{chunksOf};
 use layout::record::Record;
-use write_chunks::chunks::put_chunk;
+use write_chunks::places::put_record;
 use write_plan::Plan;
 use write_plan::begin;
 use write_plan::look_at;
@@ -17,7 +18,7 @@ pub fn plan_group(text: &[u8], table: &[Record], count: usize, room: usize) -> P
     ensures { λ p. ⌜ p ≡ planOf (now (text .entry)) (now (table .entry)) count room ⌝ }
 {
     let mut x = begin(text, table.len(), count);
-    let n = x.records;
+    let n = x.checked.records;
     for i in 0..n {
         let r = table[i];
         x = look_at(x, i, r);
@@ -25,15 +26,13 @@ pub fn plan_group(text: &[u8], table: &[Record], count: usize, room: usize) -> P
     plan_for(x, room)
 }
 
-// The chunks of the first n records from `at` on, and the place behind them: their Ctabs, or, where `seconds`, their Cntts.
-pub fn put_chunks(table: &[Record], n: usize, out: &mut [u8], at: usize, seconds: bool) -> usize
-    requires { ⌜ (n ≤ length (now table)) × (at + length (chunksOf seconds (take n (now table))) ≤ length (now out)) ⌝ }
-    ensures { λ m. ⌜ (m ≡ at + length (chunksOf seconds (take n (now (table .entry))))) × (now (out .exit) ≡ replaced (now (out .entry)) at (chunksOf seconds (take n (now (table .entry))))) ⌝ }
+// The Ctabs of the first n records, one after the other from `at` on.
+pub fn put_ctabs(table: &[Record], n: usize, out: &mut [u8], at: usize)
+    requires { ⌜ (n ≤ length (now table)) × (at + 35 * n ≤ length (now out)) ⌝ }
+    ensures { λ _. ⌜ now (out .exit) ≡ replaced (now (out .entry)) at (flatMap ctabBytes (take n (now (table .entry)))) ⌝ }
 {
-    let mut to = at;
     for i in 0..n {
         let r = table[i];
-        to = put_chunk(out, to, r, seconds);
+        put_record(out, at, i, r);
     }
-    to
 }

@@ -11,9 +11,8 @@ pub fn write_group(text: &[u8], table: &[Record], count: usize, out: &mut [u8]) 
     ensures { λ r. ⌜ GroupWritten (now (text .entry)) (now (table .entry)) count (now (out .entry)) r (now (out .exit)) ⌝ }
 {
     let plan = crate::lent::plan_group(text, table, count, out.len());
-    let at = write_chunks::start::put_start(out, text, plan);
+    let at = write_chunks::start::put_frame(out, text, plan);
     let n = plan.records;
-    let behind = crate::lent::put_chunks(table, n, out, at, false);
-    crate::lent::put_chunks(table, n, out, behind, true);
+    crate::lent::put_ctabs(table, n, out, at);
     write_plan::measured(plan)
 }

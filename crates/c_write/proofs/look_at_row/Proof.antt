@@ -1,8 +1,5 @@
 -- The record that the row stands for is that of its bytes and its last two.
-use mathlib.Core.Path.{ap, _∙_}
-use Rattle.layout.specs.declared.record.Record.{Record}
-use Rattle.write_plan.specs.Checking.{looked}
-use Rattle.c_row.proofs.Parts.{row-record}
+use Rattle.c_write.proofs.Taking.{row-looked}
 use borrow.Author.Needs.{needs}
 use Rattle.c_write.proofs.look_at_row.Statement.{statement}
 use Rattle.c_write.proofs.look_at_row.Tie as tie
@@ -21,8 +18,8 @@ look-at-bytes-requires c κs = search needs
 
 returns : tie.Need-returns
 returns c =
-    let a = c .before .before .before .before .before .args in
-    c .look-at-bytes .ensures ∙ ap (λ (r : Record). looked (a .x) (a .i) r) (row-record (a .row .now) _ (c .before .second-of .ensures))
+    let row = c .before .before .before .before .before .before .args .row .now in
+    row-looked _ _ row _ _ _ _ (c .before .before .second-of .ensures) (c .look-at-bytes .ensures)
 
 pub look-at-row-spec : {M : Type 1} → statement M
 look-at-row-spec =

@@ -1,16 +1,16 @@
 -- After i turns x is what the first i records come to; i goes up to their number.
 use Prim.Native.Nat.{_-_}
 use native.Mathlib.Omega.{arith}
-use Rattle.c_write.proofs.Taking.{Looking, looking-start, looking-lent, looking-long, looking-next, looking-end, row-there}
+use Rattle.c_write.proofs.Taking.{Looking, looking-start, looking-lent, looking-on, looking-next, looking-end, row-there}
 use borrow.Author.Needs.{needs}
 use Rattle.c_write.proofs.plan_rows.Statement.{statement}
 use Rattle.c_write.proofs.plan_rows.Tie as tie
 
 abbrev Inv-loop : tie.InvT-loop
-Inv-loop text flat count room x₀ n i₀ x i = Looking text flat count n i x
+Inv-loop text flat count room x₀ cntts₀ n i₀ x cntts i = Looking text flat count n i x cntts
 
 abbrev μ-loop : tie.MeasureT-loop
-μ-loop text flat count room x₀ n i₀ x i = n - i
+μ-loop text flat count room x₀ cntts₀ n i₀ x cntts i = n - i
 
 row-count-requires : tie.Need-row-count-requires Inv-loop μ-loop
 row-count-requires c κs = search needs
@@ -19,13 +19,13 @@ begin-requires : tie.Need-begin-requires Inv-loop μ-loop
 begin-requires c κs = search needs
 
 loop-holds : tie.Need-loop-holds Inv-loop μ-loop
-loop-holds c = looking-start _ _ _ _ _ (c .before .row-count .ensures) (c .begin .ensures)
+loop-holds c = looking-start _ _ _ _ _ (c .before .before .before .row-count .ensures) (c .before .before .begin .ensures)
 
 mul-at : tie.Need-mul-at Inv-loop μ-loop
-mul-at c = let l = looking-lent _ _ _ _ _ _ (c .before .loop .inv) in omega (arith, l)
+mul-at c = let l = looking-lent _ _ _ _ _ _ _ (c .before .loop .inv) in omega (arith, l)
 
 add-look-at-row : tie.Need-add-look-at-row Inv-loop μ-loop
-add-look-at-row c = let l = looking-lent _ _ _ _ _ _ (c .before .loop .inv) in omega (arith, l)
+add-look-at-row c = let l = looking-lent _ _ _ _ _ _ _ (c .before .loop .inv) in omega (arith, l)
 
 sub-look-at-row : tie.Need-sub-look-at-row Inv-loop μ-loop
 sub-look-at-row c = search needs
@@ -34,14 +34,13 @@ part-look-at-row-start : tie.Need-part-look-at-row-start Inv-loop μ-loop
 part-look-at-row-start c = search needs
 
 part-look-at-row-end : tie.Need-part-look-at-row-end Inv-loop μ-loop
-part-look-at-row-end c = let l = looking-lent _ _ _ _ _ _ (c .before .loop .inv) in omega (arith, l)
+part-look-at-row-end c = let l = looking-lent _ _ _ _ _ _ _ (c .before .loop .inv) in omega (arith, l)
 
 look-at-row-requires : tie.Need-look-at-row-requires Inv-loop μ-loop
 look-at-row-requires c κs =
-    let t = c .before .before in
-    let inv = t .loop .inv in
-    let l = looking-lent _ _ _ _ _ _ inv in
-    (search needs, (omega (arith, l), looking-long _ _ _ _ _ _ inv))
+    let inv = c .before .before .before .loop .inv in
+    let l = looking-lent _ _ _ _ _ _ _ inv in
+    (search needs, looking-on _ _ _ _ _ _ _ inv (omega (arith, l)))
 
 add-i : tie.Need-add-i Inv-loop μ-loop
 add-i c = search needs
@@ -51,13 +50,13 @@ loop-less c = search needs
 
 loop-again : tie.Need-loop-again Inv-loop μ-loop
 loop-again c =
-    looking-next _ _ _ _ _ _ (c .before .before .before .loop .inv) _ _ (search needs) (search row-there) (c .look-at-row .ensures)
+    looking-next _ _ _ _ _ _ _ (c .before .before .before .before .loop .inv) _ _ _ (search needs) (search row-there) (c .look-at-row .ensures)
 
 plan-for-requires : tie.Need-plan-for-requires Inv-loop μ-loop
 plan-for-requires c κs = search needs
 
 returns : tie.Need-returns Inv-loop μ-loop
-returns c = looking-end _ _ _ _ _ _ (c .before .before .loop .inv) _ _ (search needs) (c .plan-for .ensures)
+returns c = looking-end _ _ _ _ _ _ _ (c .before .before .loop .inv) _ _ (search needs) (c .plan-for .ensures)
 
 pub plan-rows-spec : {M : Type 1} → statement M
 plan-rows-spec =

@@ -1,39 +1,16 @@
-use mathlib.Core.Path.{sym, _∙_}
-use borrow.Author.Tests.{not-true, not-false}
-use Rattle.write_plan.proofs.Looking.{begun-many, begun-bad, begun-sound}
+use mathlib.Core.Path.{ap}
+use Rattle.write_plan.specs.declared.Checked.{Checked}
+use Rattle.write_plan.specs.declared.Taken.{Taken}
+use Rattle.write_plan.specs.Checking.{noCntts}
 use borrow.Author.Needs.{needs}
 use Rattle.write_plan.proofs.begin.Statement.{statement}
 use Rattle.write_plan.proofs.begin.Tie as tie
 
-refused-at-requires : tie.Need-refused-at-requires
-refused-at-requires c κs = search needs
+first-checked-requires : tie.Need-first-checked-requires
+first-checked-requires c κs = search needs
 
 returns : tie.Need-returns
-returns c = c .refused-at .ensures ∙ sym (begun-many _ _ _ (c .before .if1 .taken))
-
-is-sound-text-requires : tie.Need-is-sound-text-requires
-is-sound-text-requires c κs = search needs
-
-refused-at-requires-2 : tie.Need-refused-at-requires-2
-refused-at-requires-2 c κs = search needs
-
-returns-2 : tie.Need-returns-2
-returns-2 c = c .refused-at2 .ensures ∙ sym (begun-bad _ _ _ (c .before .before .before .if1 .left) (sym (c .before .before .is-sound-text .ensures) ∙ not-true _ (c .before .if2 .taken)))
-
-add-t7 : tie.Need-add-t7
-add-t7 c = search needs
-
-returns-3 : tie.Need-returns-3
-returns-3 c = sym (begun-sound _ _ _ (c .before .before .if1 .left) (sym (c .before .is-sound-text .ensures) ∙ not-false _ (c .if2 .left)))
+returns c = ap {B = Taken} (λ (x : Checked). record { checked = x; cntts = noCntts }) (c .first-checked .ensures)
 
 pub begin-spec : {M : Type 1} → statement M
-begin-spec =
-    tie.close
-    (tie.spec
-    refused-at-requires
-    returns
-    is-sound-text-requires
-    refused-at-requires-2
-    returns-2
-    add-t7
-    returns-3)
+begin-spec = tie.close (tie.spec first-checked-requires returns)

@@ -1,5 +1,5 @@
 -- A record's bytes and second table are all that is looked at.
-use Rattle.write_plan.proofs.Looking.{looked-held}
+use Rattle.write_plan.proofs.Looking.{taken-held}
 use borrow.Author.Needs.{needs}
 use Rattle.write_plan.proofs.look_at.Statement.{statement}
 use Rattle.write_plan.proofs.look_at.Tie as tie
@@ -14,8 +14,9 @@ look-at-bytes-requires : tie.Need-look-at-bytes-requires
 look-at-bytes-requires c κs = search needs
 
 returns : tie.Need-returns
-returns c = looked-held _ _ _ _ _ (c .before .before .bytes-of .ensures) (c .look-at-bytes .ensures)
+returns c = taken-held _ _ _ _ _ _ (c .before .before .before .before .before .bytes-of .ensures) (c .look-at-bytes .ensures)
 
 pub look-at-spec : {M : Type 1} → statement M
 look-at-spec =
-    tie.close (tie.spec bytes-of-requires slice-aggregate-look-at-bytes look-at-bytes-requires returns)
+    tie.close
+    (tie.spec bytes-of-requires slice-aggregate-look-at-bytes look-at-bytes-requires returns)

@@ -1,5 +1,5 @@
 -- A walk of the function's MIR, by hand, with a loop that reads one record a turn and passes it to `look_at`, which is covered; each refusal is made there.
--- The table is looked into once, before the loop, and shut once, after it. After i turns the state is what `lookedAt` says of the first i records.
+-- The table is looked into once, before the loop, and shut once, after it. After i turns the state is what `takenAt` says of the first i records.
 use mathlib.Core.Path.{_≡_, refl, sym, ap, _∙_}
 use Prim.Native.Nat.{ℕ, _+_, _*_, _-_, _<_, _≤_, _^_, zero-le}
 use native.Mathlib.Nat.{le-antisymm}
@@ -51,16 +51,16 @@ use denote.Exit.{yes}
 use denote.Signature.{Slot, plain, shrSliceOf}
 use Rattle.layout.specs.declared.record.Record.{Record}
 use Rattle.layout.specs.Records.{blank}
-use Rattle.write_plan.specs.declared.Checked.{Checked}
+use Rattle.write_plan.specs.declared.Taken.{Taken}
 use Rattle.write_plan.specs.declared.Plan.{Plan}
-use Rattle.write_plan.specs.Checking.{begun, recordsNever, Looking, looked, lookedAt, planned, planOf}
+use Rattle.write_plan.specs.Checking.{begun, recordsNever, Looking, taken, takenAt, planned, planOf}
 use Rattle.layout.proofs.record.Record as T
 use Rattle.layout.proofs.record.Record.Laws as T′
-use Rattle.write_plan.proofs.Checked as K
-use Rattle.write_plan.proofs.Checked.Laws as K′
+use Rattle.write_plan.proofs.Taken as K
+use Rattle.write_plan.proofs.Taken.Laws as K′
 use Rattle.write_plan.proofs.Plan as P
 use Rattle.write_plan.proofs.Plan.Laws as P′
-use Rattle.write_plan.proofs.Length.{length-most, records-within}
+use Rattle.write_plan.proofs.Length.{looking, records-within}
 use Rattle.write_plan.proofs.begin as begin
 use Rattle.write_plan.proofs.begin.Symbol as begin-def
 use Rattle.write_plan.proofs.begin.Symbol.{name as #plan·begin}
@@ -86,10 +86,10 @@ abbrev vals : Record → List Val
 vals = LL.vals T.the-type T′.the-laws
 
 -- the state's machine values
-abbrev valK : Checked → Val
+abbrev valK : Taken → Val
 valK = LL.val K.the-type K′.the-laws
 
-abbrev valsK : Checked → List Val
+abbrev valsK : Taken → List Val
 valsK = LL.vals K.the-type K′.the-laws
 
 abbrev Text : Slot 2
@@ -108,15 +108,15 @@ few : {n l : ℕ} → l * 28 < 2 ^ 63 → n < l → n < recordsNever
 few room within = omega (arith, room, within)
 
 -- ---- the state
-looked-none : (x : Checked) (rs : List Record) → lookedAt x rs 0 ≡ x
-unfolding lookedAt
+looked-none : (x : Taken) (rs : List Record) → takenAt x rs 0 ≡ x
+unfolding takenAt
 looked-none x rs = refl
 
-looked-next : (x : Checked) (rs : List Record) (i : ℕ) → looked (lookedAt x rs i) i (getD rs i blank) ≡ lookedAt x rs (i + 1)
-unfolding lookedAt
-looked-next x rs i = ap (lookedAt x rs) (sym (add-one i))
+looked-next : (x : Taken) (rs : List Record) (i : ℕ) → taken (takenAt x rs i) i (getD rs i blank) ≡ takenAt x rs (i + 1)
+unfolding takenAt
+looked-next x rs i = ap (takenAt x rs) (sym (add-one i))
 
-plan-is : (text : List ℕ) (rs : List Record) (count room : ℕ) → planned (lookedAt (begun text (length rs) count) rs (begun text (length rs) count .records)) room ≡ planOf text rs count room
+plan-is : (text : List ℕ) (rs : List Record) (count room : ℕ) → planned (takenAt (begun text (length rs) count) rs (begun text (length rs) count .checked .records)) room ≡ planOf text rs count room
 unfolding planOf
 plan-is text rs count room = refl
 
@@ -163,19 +163,19 @@ module _ {M : Type 1} (𝓤 : URA M) (H : Heap 𝓤) (A : Atoms 𝓤) (W : Given
   abbrev many : ℕ
   many = length rs
 
-  abbrev x₀ : Checked
+  abbrev x₀ : Taken
   x₀ = begun ts many count
 
   abbrev n : ℕ
-  n = x₀ .records
+  n = x₀ .checked .records
 
-  abbrev x-at : ℕ → Checked
-  x-at i = lookedAt x₀ rs i
+  abbrev x-at : ℕ → Taken
+  x-at i = takenAt x₀ rs i
 
   abbrev OwnText : Fml
   OwnText = ShrSlice (named 0) κ₁ u8 .own text (s₁ ∷ [])
 
-  abbrev OwnX : Checked → Fml
+  abbrev OwnX : Taken → Fml
   OwnX x = K.the-row .own x (valsK x)
 
   abbrev Post : Val → SProp 𝓤
@@ -196,26 +196,26 @@ module _ {M : Type 1} (𝓤 : URA M) (H : Heap 𝓤) (A : Atoms 𝓤) (W : Given
   goes-begin fits = qed W (‵ (flft κ₁ q₁) ∷ ‵ OwnText ∷ []) ∵ nothing ! $ move ! (1 ∷ 0 ∷ []) $ join ! $ nothing ! $ owned ! usize (Is usize) (uint-makes 𝓤 H A W w64) count _ (refl, count-fits) $ fjoin ! $
       owned ! usize (Is usize) (uint-makes 𝓤 H A W w64) many _ (refl, fits) $ fjoin ! $ move ! (2 ∷ 0 ∷ []) $ fjoin ! $ move ! (1 ∷ 0 ∷ []) $ join ! $ frame ! $ done !
 
-  said-begin : (y : Checked) → ent 𝓤 (ensured 𝓤 H A begin.ended (begin.clauses 𝓤 H A mem run) (κ₁, tt) (text, (many, (count, tt))) tt y) (fact 𝓤 (y ≡ x₀))
+  said-begin : (y : Taken) → ent 𝓤 (ensured 𝓤 H A begin.ended (begin.clauses 𝓤 H A mem run) (κ₁, tt) (text, (many, (count, tt))) tt y) (fact 𝓤 (y ≡ x₀))
   said-begin y = exE 𝓤 _ (λ ws. snd∗ 𝓤 (sem 𝓤 H A (lasts begin.ended (κ₁, tt) (text, (many, (count, tt))) ws)) (fact 𝓤 (y ≡ x₀)))
 
-  abbrev to-look : Checked → ℕ → Record → Look 𝓤 H A mem run .Ghost
+  abbrev to-look : Taken → ℕ → Record → Look 𝓤 H A mem run .Ghost
   to-look x i r = ((tt, tt, tt, (x, (i, (r, tt))), (valsK x, (vint w64 i ∷ [], (vals r, tt)))), tt)
 
-  goes-look : (x : Checked) (i : ℕ) (r : Record) → i < 2 ^ 64 → Is R r (vals r) → Looking x i → ent 𝓤 (sem 𝓤 H A (OwnX x)) (Look 𝓤 H A mem run .pre (to-look x i r))
+  goes-look : (x : Taken) (i : ℕ) (r : Record) → i < 2 ^ 64 → Is R r (vals r) → Looking (x .checked) i → ent 𝓤 (sem 𝓤 H A (OwnX x)) (Look 𝓤 H A mem run .pre (to-look x i r))
   goes-look x i r fits g within = qed W (‵ (OwnX x) ∷ []) ∵ says ! within $ nothing ! $ frame ! $ nothing ! $ owned ! R (Is R) (LL.makes T.the-type T′.the-plain 𝓤 H A) r _ g $ fjoin ! $
       owned ! usize (Is usize) (uint-makes 𝓤 H A W w64) i _ (refl, fits) $ fjoin ! $ move ! (1 ∷ 0 ∷ []) $ fjoin ! $ done !
 
-  said-look : (x : Checked) (i : ℕ) (r : Record) (y : Checked) → ent 𝓤 (ensured 𝓤 H A look-at.ended (look-at.clauses 𝓤 H A mem run) tt (x, (i, (r, tt))) tt y) (fact 𝓤 (y ≡ looked x i r))
-  said-look x i r y = exE 𝓤 _ (λ ws. snd∗ 𝓤 (sem 𝓤 H A (lasts look-at.ended tt (x, (i, (r, tt))) ws)) (fact 𝓤 (y ≡ looked x i r)))
+  said-look : (x : Taken) (i : ℕ) (r : Record) (y : Taken) → ent 𝓤 (ensured 𝓤 H A look-at.ended (look-at.clauses 𝓤 H A mem run) tt (x, (i, (r, tt))) tt y) (fact 𝓤 (y ≡ taken x i r))
+  said-look x i r y = exE 𝓤 _ (λ ws. snd∗ 𝓤 (sem 𝓤 H A (lasts look-at.ended tt (x, (i, (r, tt))) ws)) (fact 𝓤 (y ≡ taken x i r)))
 
-  abbrev to-plan : Checked → Planning 𝓤 H A mem run .Ghost
+  abbrev to-plan : Taken → Planning 𝓤 H A mem run .Ghost
   to-plan x = ((tt, tt, tt, (x, (space, tt)), (valsK x, (vint w64 space ∷ [], tt))), tt)
 
-  goes-plan : (x : Checked) → ent 𝓤 (sem 𝓤 H A (OwnX x)) (Planning 𝓤 H A mem run .pre (to-plan x))
+  goes-plan : (x : Taken) → ent 𝓤 (sem 𝓤 H A (OwnX x)) (Planning 𝓤 H A mem run .pre (to-plan x))
   goes-plan x = qed W (‵ (OwnX x) ∷ []) ∵ nothing ! $ nothing ! $ owned ! usize (Is usize) (uint-makes 𝓤 H A W w64) space _ (refl, space-fits) $ fjoin ! $ move ! (2 ∷ 0 ∷ []) $ fjoin ! $ move ! (1 ∷ 0 ∷ []) $ join ! $ frame ! $ done !
 
-  said-plan : (x : Checked) (p : Plan) → ent 𝓤 (ensured 𝓤 H A plan-for.ended (plan-for.clauses 𝓤 H A mem run) tt (x, (space, tt)) tt p) (fact 𝓤 (p ≡ planned x space))
+  said-plan : (x : Taken) (p : Plan) → ent 𝓤 (ensured 𝓤 H A plan-for.ended (plan-for.clauses 𝓤 H A mem run) tt (x, (space, tt)) tt p) (fact 𝓤 (p ≡ planned x space))
   said-plan x p = exE 𝓤 _ (λ ws. snd∗ 𝓤 (sem 𝓤 H A (lasts plan-for.ended tt (x, (space, tt)) ws)) (fact 𝓤 (p ≡ planned x space)))
 
   module _ (𝓣 : Tables 𝓤 H) (known-begin : Triple 𝓤 (𝓣 .C #plan·begin) (Begin 𝓤 H A mem run)) (known-look : Triple 𝓤 (𝓣 .C #plan·look-at) (Look 𝓤 H A mem run)) (known-plan : Triple 𝓤 (𝓣 .C #plan·plan-for) (Planning 𝓤 H A mem run)) (room : Room R (length rs)) where
@@ -282,15 +282,15 @@ module _ {M : Type 1} (𝓤 : URA M) (H : Heap 𝓤) (A : Atoms 𝓤) (W : Given
           assigns ! (of-opd ! (load ! (from ! (stop !)) (look ! 6 refl))) (from ! (stop !)) (init ! 16 refl (LL.lawful T.the-type T′.the-laws 𝓤 H A W .typed r _ g .0)) $
           elem-back ! R q′ rs (i .0) blank (vals r) b o in-table $
           -- [the row; what the state owns; the text's token; the open borrow; _13; …]
-          move ! (1 ∷ []) $ use1 W (raw (Look 𝓤 H A mem run .pre (to-look (x-at (i .0)) j r))) (goes-look (x-at (i .0)) j r fits g (few (room .1) in-table, length-most ts many count rs j)) $
+          move ! (1 ∷ []) $ use1 W (raw (Look 𝓤 H A mem run .pre (to-look (x-at (i .0)) j r))) (goes-look (x-at (i .0)) j r fits g (looking ts many count rs j (few (room .1) in-table))) $
           calls-at ! fm (Look 𝓤 H A mem run) known-look (to-look (x-at (i .0)) j r) (and-then ! (load ! (from ! (stop !)) (look ! 20 refl)) (and-then ! (load ! (from ! (stop !)) (look ! 16 refl)) (and-then ! (load ! (from ! (stop !)) (look ! 14 refl)) (no-more !)))) (λ w.
-          use1 W (later (some (λ (y : Checked). (‵ ftrue ⊛ ‵ (K.the-row .own y (w ∷ []))) ⊛ raw (ensured 𝓤 H A look-at.ended (look-at.clauses 𝓤 H A mem run) tt (x-at (i .0), (j, (r, tt))) tt y)))) (id⊢ 𝓤 _) $ await ! tt $ pick ! (λ y.
-          split ! $ move ! (1 ∷ []) $ use1 W (raw (fact 𝓤 (y ≡ looked (x-at (i .0)) j r))) (said-look (x-at (i .0)) j r y) $ heard ! (y ≡ looked (x-at (i .0)) j r) (λ d. split ! $ move ! (1 ∷ []) $
+          use1 W (later (some (λ (y : Taken). (‵ ftrue ⊛ ‵ (K.the-row .own y (w ∷ []))) ⊛ raw (ensured 𝓤 H A look-at.ended (look-at.clauses 𝓤 H A mem run) tt (x-at (i .0), (j, (r, tt))) tt y)))) (id⊢ 𝓤 _) $ await ! tt $ pick ! (λ y.
+          split ! $ move ! (1 ∷ []) $ use1 W (raw (fact 𝓤 (y ≡ taken (x-at (i .0)) j r))) (said-look (x-at (i .0)) j r y) $ heard ! (y ≡ taken (x-at (i .0)) j r) (λ d. split ! $ move ! (1 ∷ []) $
           peeks ! K.the-row (Is K.the-row) (shows 𝓤 H A K.the-row) y (w ∷ []) (λ is.
           -- the call's result is stored over the state
           land ! (from ! (stop !)) (store ! 21 refl (LL.lawful K.the-type K′.the-laws 𝓤 H A W .typed y _ is .0)) $ rewrite ! 21 (λ (u : Val). ‵ (fat fullShare K′.mir l₅ 0 u)) (ap only (LL.tells K.the-type K′.the-laws y _ is)) refl $
           rewrite ! 0 (λ (vs : List Val). ‵ (K.the-row .own y vs)) (LL.tells K.the-type K′.the-laws y _ is) refl $
-          rewrite ! 21 (λ (z : Checked). ‵ (fat fullShare K′.mir l₅ 0 (valK z))) (d ∙ looked-next x₀ rs (i .0)) refl $ rewrite ! 0 (λ (z : Checked). ‵ (OwnX z)) (d ∙ looked-next x₀ rs (i .0)) refl $
+          rewrite ! 21 (λ (z : Taken). ‵ (fat fullShare K′.mir l₅ 0 (valK z))) (d ∙ looked-next x₀ rs (i .0)) refl $ rewrite ! 0 (λ (z : Taken). ‵ (OwnX z)) (d ∙ looked-next x₀ rs (i .0)) refl $
           -- [what the state owns; true; the row; the text's token; the open borrow; _13; …]
           assigns-last ! (bin ! (load ! (from ! (stop !)) (look ! 17 refl)) (lit ! tt) (record { fits = next-fits })) (from ! (stop !)) (store ! 17 refl (tt, record { fits = next-fits })) $
           forget ! 5 refl $ forget ! 7 refl $ forget ! 9 refl $ forget ! 11 refl $ forget ! 15 refl $ move ! (1 ∷ []) $ drop ! $ move ! (0 ∷ 2 ∷ []) $
@@ -358,15 +358,15 @@ module _ {M : Type 1} (𝓤 : URA M) (H : Heap 𝓤) (A : Atoms 𝓤) (W : Given
         -- [the text's token; the table's; what the table owns; the rest; what the text owns; _13; …]
         move ! (0 ∷ 4 ∷ []) $ use2 W (raw (Begin 𝓤 H A mem run .pre to-begin)) (goes-begin (room .0)) $
         calls-at ! fm (Begin 𝓤 H A mem run) known-begin to-begin (and-then ! (load ! (from ! (stop !)) (look ! 28 refl)) (and-then ! (load ! (from ! (stop !)) (look ! 12 refl)) (and-then ! (load ! (from ! (stop !)) (look ! 24 refl)) (no-more !)))) (λ w.
-        use1 W (later (some (λ (y : Checked). ((‵ (flft κ₁ q₁) ⊛ ‵ ftrue) ⊛ ‵ (K.the-row .own y (w ∷ []))) ⊛ raw (ensured 𝓤 H A begin.ended (begin.clauses 𝓤 H A mem run) (κ₁, tt) (text, (many, (count, tt))) tt y)))) (id⊢ 𝓤 _) $ await ! tt $ pick ! (λ y.
+        use1 W (later (some (λ (y : Taken). ((‵ (flft κ₁ q₁) ⊛ ‵ ftrue) ⊛ ‵ (K.the-row .own y (w ∷ []))) ⊛ raw (ensured 𝓤 H A begin.ended (begin.clauses 𝓤 H A mem run) (κ₁, tt) (text, (many, (count, tt))) tt y)))) (id⊢ 𝓤 _) $ await ! tt $ pick ! (λ y.
         split ! $ move ! (1 ∷ []) $ use1 W (raw (fact 𝓤 (y ≡ x₀))) (said-begin y) $ heard ! (y ≡ x₀) (λ d. split ! $ move ! (1 ∷ []) $
         peeks ! K.the-row (Is K.the-row) (shows 𝓤 H A K.the-row) y (w ∷ []) (λ is.
         land ! (from ! (stop !)) (init ! 21 refl (LL.lawful K.the-type K′.the-laws 𝓤 H A W .typed y _ is .0)) $ rewrite ! 21 (λ (u : Val). ‵ (fat fullShare K′.mir l₅ 0 u)) (ap only (LL.tells K.the-type K′.the-laws y _ is)) refl $
         rewrite ! 0 (λ (vs : List Val). ‵ (K.the-row .own y vs)) (LL.tells K.the-type K′.the-laws y _ is) refl $
-        rewrite ! 21 (λ (z : Checked). ‵ (fat fullShare K′.mir l₅ 0 (valK z))) d refl $ rewrite ! 0 (λ (z : Checked). ‵ (OwnX z)) d refl $
-        assigns ! (of-opd ! (load ! (from ! (fld ! refl (stop !))) (look-in ! 21 (sub ! 2 refl (whole !))))) (from ! (stop !)) (init ! 19 refl (tt, record { fits = n-fits })) $
+        rewrite ! 21 (λ (z : Taken). ‵ (fat fullShare K′.mir l₅ 0 (valK z))) d refl $ rewrite ! 0 (λ (z : Taken). ‵ (OwnX z)) d refl $
+        assigns ! (of-opd ! (load ! (from ! (fld ! refl (fld ! refl (stop !)))) (look-in ! 21 (sub ! 2 refl (sub ! 0 refl (whole !)))))) (from ! (stop !)) (init ! 19 refl (tt, record { fits = n-fits })) $
         assigns ! (of-opd ! (lit ! tt)) (from ! (stop !)) (init ! 17 refl (tt, record { fits = lit< tt })) $
-        rewrite ! 21 (λ (z : Checked). ‵ (fat fullShare K′.mir l₅ 0 (valK z))) (sym (looked-none x₀ rs)) refl $ rewrite ! 0 (λ (z : Checked). ‵ (OwnX z)) (sym (looked-none x₀ rs)) refl $
+        rewrite ! 21 (λ (z : Taken). ‵ (fat fullShare K′.mir l₅ 0 (valK z))) (sym (looked-none x₀ rs)) refl $ rewrite ! 0 (λ (z : Taken). ‵ (OwnX z)) (sym (looked-none x₀ rs)) refl $
         -- [what the state owns; the text's token; the table's; what the table owns; the rest; _13; …]
         move ! (1 ∷ []) $ split ! $ move ! (3 ∷ []) $ split ! $ move ! (5 ∷ []) $ fsplit ! $ move ! (1 ∷ []) $ fsplit ! $ move ! (1 ∷ 3 ∷ []) $
         -- [the borrow; the table's token; res; fact; true; the text's token; true; what the state owns; the rest; _13; …]

@@ -1,0 +1,22 @@
+use mathlib.Core.Path.{sym, ap}
+use Rattle.write_plan.specs.Checking.{cnttCount}
+use borrow.Author.Needs.{needs}
+use Rattle.write_plan.proofs.cntt_count.Statement.{statement}
+use Rattle.write_plan.proofs.cntt_count.Tie as tie
+
+enum-told : tie.Need-enum-told
+enum-told c = search needs
+
+enum-told-2 : tie.Need-enum-told-2
+enum-told-2 c = search needs
+
+returns : tie.Need-returns
+unfolding cnttCount
+returns c = sym (ap cnttCount (c .enum-told .given .1))
+
+returns-2 : tie.Need-returns-2
+unfolding cnttCount
+returns-2 c = sym (ap cnttCount (c .enum-told2 .given .1))
+
+pub cntt-count-spec : {M : Type 1} → statement M
+cntt-count-spec = tie.close (tie.spec enum-told enum-told-2 returns returns-2)
