@@ -72,7 +72,7 @@ fn nobody(number: u8, place: usize) -> Played
 pub fn who_plays(s: &[u8], name: &[u8], root: u8, kind: u8) -> Played
     ensures { λ r. ⌜ PlaysTold (now (s .entry)) (now (name .entry)) root kind r ⌝ }
 {
-    let search = read_find::find_part(s, name);
+    let search = read_find::locate_part(s, name);
     if let Search::Refused(number, place) = search {
         return nobody(number, place);
     }

@@ -7,7 +7,7 @@ use lib.ListN.{length, getD, take, drop, length-take, length-drop}
 use lib.Seq.{take-suc, take-take, length-take-le, getD-drop}
 use Rattle.layout.specs.declared.answer.Spanned.{Spanned}
 use Rattle.layout.specs.Answers.{Answer, refused, granted, numberOf, placeOf, valueOr, partOf, Span, nothing, spanned}
-use Rattle.layout.specs.Asked.{Row, ofRecord, channelFound}
+use Rattle.layout.specs.Asked.{Whereabouts, ofRecord, channelFound}
 use Rattle.layout.specs.Voice.{trimmed, voiceBytes, voiceName, voiceSpanAt, voiceSpan}
 use Rattle.read_find.specs.declared.row.Sought.{Sought}
 use Rattle.read_find.specs.declared.row.Sought.the-variants.{Refused as No, At}
@@ -95,10 +95,10 @@ module _ (s : List ℕ) (g channel : ℕ) where
   unfolding voiceSpan voiceName
   voice-alike = go (sought (channelFound s g channel)) refl
     where
-      span : Row → Answer Span
+      span : Whereabouts → Answer Span
       span row = granted (voiceSpanAt s (row .at))
 
-      part : Row → Answer (List ℕ)
+      part : Whereabouts → Answer (List ℕ)
       part row = granted (trimmed (voiceBytes s (row .at)))
 
       go : (x : Sought) → sought (channelFound s g channel) ≡ x → Alike s (ofRecord s g channel span) (ofRecord s g channel part)

@@ -26,7 +26,7 @@ use Rattle.layout.specs.declared.answer.Changed.{Changed}
 use Rattle.layout.specs.Promises.{RecordEdited, NotePlaced}
 use Rattle.layout.specs.Screen.{fieldSet, changed}
 use Rattle.c_row.specs.declared.row.Row.{Row}
-use Rattle.c_row.specs.Rows.{channel, rowOf}
+use Rattle.c_row.specs.Rows.{channel, rowFor}
 use Rattle.c_export.specs.declared.answer.Edited.{Edited}
 use Rattle.c_export.specs.Crossing.{editOf}
 
@@ -35,7 +35,7 @@ pub edited-by : (before after : List ℕ) (group source : ℕ) (new row : Record
 edited-by before after group source new row r e p = subst (λ (x : Record). RecordEdited before group source x r after) e p
 
 -- the answer of a field set, with the record that it holds as a row
-pub edit-told : (x y : Changed) (row : Row) → row ≡ rowOf (x .held) → x ≡ y → record { number = x .number; place = x .place; held = row } ≡ editOf y
+pub edit-told : (x y : Changed) (row : Row) → row ≡ rowFor (x .held) → x ≡ y → record { number = x .number; place = x .place; held = row } ≡ editOf y
 edit-told x y row e h = ap {B = Edited} (λ (w : Row). record { number = x .number; place = x .place; held = w }) e ∙ ap editOf h
 
 -- every group that is read is of the first edition ..

@@ -1,6 +1,6 @@
 -- What crosses to C, as the answers of the layout: field by field the same, under the names of include/casm.h.
 use mathlib.Core.List.{map}
-use Rattle.c_row.specs.Rows.{channel, rowOf}
+use Rattle.c_row.specs.Rows.{channel, rowFor}
 use Rattle.layout.specs.declared.answer.Answered.{Answered}
 use Rattle.layout.specs.declared.answer.Counted.{Counted}
 use Rattle.layout.specs.declared.answer.Measured.{Measured}
@@ -31,24 +31,24 @@ abbrev pub answered : Answer → Answered
 answered r = record { number = r .number; place = r .place }
 
 -- a count
-abbrev pub counted : Count → Counted
-counted r = record { number = r .number; place = r .place; count = r .count }
+abbrev pub asCounted : Count → Counted
+asCounted r = record { number = r .number; place = r .place; count = r .count }
 
 -- the length of what was written
-abbrev pub measured : Length → Measured
-measured r = record { number = r .number; place = r .place; length = r .length }
+abbrev pub asMeasured : Length → Measured
+asMeasured r = record { number = r .number; place = r .place; length = r .length }
 
 -- the CASM section of a style file
-abbrev pub located : Section → Located
-located r = record { number = r .number; place = r .place; tag = r .tag; length = r .length }
+abbrev pub asLocated : Section → Located
+asLocated r = record { number = r .number; place = r .place; tag = r .tag; length = r .length }
 
 -- the number of a group
-abbrev pub named : Holder → Named
-named r = record { number = r .number; place = r .place; group = r .group }
+abbrev pub asNamed : Holder → Named
+asNamed r = record { number = r .number; place = r .place; group = r .group }
 
 -- where a group and its parts stand; every group that is read is of the first edition
-abbrev pub standing : Bounds → Standing
-standing r =
+abbrev pub asStanding : Bounds → Standing
+asStanding r =
     record {
       edition = First;
       at = r .at;
@@ -62,25 +62,25 @@ standing r =
     }
 
 -- one group
-abbrev pub grouped : Bounds → Grouped
-grouped r = record { number = r .number; place = r .place; group = standing r }
+abbrev pub asGrouped : Bounds → Grouped
+asGrouped r = record { number = r .number; place = r .place; group = asStanding r }
 
 -- the record of a source channel
-abbrev pub channelled : Position → Channelled
-channelled r = record { number = r .number; place = r .place; row = r .«record»; at = r .at }
+abbrev pub asChannelled : Position → Channelled
+asChannelled r = record { number = r .number; place = r .place; row = r .«record»; at = r .at }
 
 -- a part of the lent bytes
-abbrev pub spanned : Span → Spanned
-spanned r = record { number = r .number; place = r .place; start = r .start; length = r .length }
+abbrev pub asSpanned : Span → Spanned
+asSpanned r = record { number = r .number; place = r .place; start = r .start; length = r .length }
 
 -- the source channels that play
-abbrev pub played : Players → Played
-played r = record { number = r .number; place = r .place; count = r .count; channels = map channel (r .channels) }
+abbrev pub asPlayed : Players → Played
+asPlayed r = record { number = r .number; place = r .place; count = r .count; channels = map channel (r .channels) }
 
 -- the note, or silence
-abbrev pub placed : Note → Placed
-placed r = record { number = r .number; place = r .place; silent = r .silent; note = r .note }
+abbrev pub asPlaced : Note → Placed
+asPlaced r = record { number = r .number; place = r .place; silent = r .silent; note = r .note }
 
 -- a record after one field byte of it was set
 abbrev pub editOf : Changed → Edited
-editOf c = record { number = c .number; place = c .place; held = rowOf (c .held) }
+editOf c = record { number = c .number; place = c .place; held = rowFor (c .held) }

@@ -7,7 +7,7 @@ ghost use Rattle.c_export.specs.Crossing.{answered, editOf};
 use crate::answer::Answer;
 use crate::answer::Edited;
 use c_row::row::Row;
-use c_row::row::record_of;
+use c_row::row::recorded;
 use c_row::row::row_of;
 use layout::record::SourceChannel;
 
@@ -16,7 +16,7 @@ use layout::record::SourceChannel;
 pub extern "C" fn casm_edit(body: &mut [u8], group: usize, source: u8, row: Row) -> Answer
     ensures { λ r. ⌜ RecordEdited (now (body .entry)) group source (recorded row) (answered r) (now (body .exit)) ⌝ }
 {
-    let new = record_of(row);
+    let new = recorded(row);
     let x = casm::editing::edit_record(body, group, SourceChannel(source), new);
     Answer {
         number: x.number,
@@ -29,7 +29,7 @@ pub extern "C" fn casm_edit(body: &mut [u8], group: usize, source: u8, row: Row)
 pub extern "C" fn casm_field(row: Row, index: usize, value: u8) -> Edited
     ensures { λ r. ⌜ r ≡ editOf (changed (recorded row) (fieldSet (recorded row) index value)) ⌝ }
 {
-    let x = casm::field::set_field(record_of(row), index, value);
+    let x = casm::field::set_field(recorded(row), index, value);
     let held = x.held;
     let told = row_of(held);
     Edited {

@@ -1,6 +1,6 @@
 // Strict reading and the salvage list (document 01, "The CASM body" and "The salvage list").
 ghost use Rattle.layout.specs.Promises.{CasmFound, BodyRead, PartFound, GroupFound, ChannelFound, Salvaged};
-ghost use Rattle.c_export.specs.Crossing.{located, counted, named, grouped, channelled};
+ghost use Rattle.c_export.specs.Crossing.{asLocated, asCounted, asNamed, asGrouped, asChannelled};
 use crate::answer::Bounds;
 use crate::answer::Count;
 use crate::answer::Holder;
@@ -11,7 +11,7 @@ use layout::record::SourceChannel;
 // Finds the CASM section of a style file: the place of its tag and the length of its body.
 #[no_mangle]
 pub extern "C" fn casm_find(file: &[u8]) -> Section
-    ensures { λ r. ⌜ CasmFound (now (file .entry)) (located r) ⌝ }
+    ensures { λ r. ⌜ CasmFound (now (file .entry)) (asLocated r) ⌝ }
 {
     let x = casm::read::find_casm(file);
     Section {
@@ -25,7 +25,7 @@ pub extern "C" fn casm_find(file: &[u8]) -> Section
 // Reads a body strictly: the number of its groups.
 #[no_mangle]
 pub extern "C" fn casm_body(body: &[u8]) -> Count
-    ensures { λ r. ⌜ BodyRead (now (body .entry)) (counted r) ⌝ }
+    ensures { λ r. ⌜ BodyRead (now (body .entry)) (asCounted r) ⌝ }
 {
     let x = casm::read::read_body(body);
     Count {
@@ -38,7 +38,7 @@ pub extern "C" fn casm_body(body: &[u8]) -> Count
 // The number of the group that has a part.
 #[no_mangle]
 pub extern "C" fn casm_part(body: &[u8], part: &[u8]) -> Holder
-    ensures { λ r. ⌜ PartFound (now (body .entry)) (now (part .entry)) (named r) ⌝ }
+    ensures { λ r. ⌜ PartFound (now (body .entry)) (now (part .entry)) (asNamed r) ⌝ }
 {
     let x = casm::read::find_part(body, part);
     Holder {
@@ -51,7 +51,7 @@ pub extern "C" fn casm_part(body: &[u8], part: &[u8]) -> Holder
 // Where a group and its parts stand in the body, by the group's number.
 #[no_mangle]
 pub extern "C" fn casm_group(body: &[u8], group: usize) -> Bounds
-    ensures { λ r. ⌜ GroupFound (now (body .entry)) group (grouped r) ⌝ }
+    ensures { λ r. ⌜ GroupFound (now (body .entry)) group (asGrouped r) ⌝ }
 {
     let x = casm::read::find_group(body, group);
     let g = x.group;
@@ -72,7 +72,7 @@ pub extern "C" fn casm_group(body: &[u8], group: usize) -> Bounds
 // The record of a source channel in a group: its number among the group's records, and the place of its byte 0.
 #[no_mangle]
 pub extern "C" fn casm_channel(body: &[u8], group: usize, source: u8) -> Position
-    ensures { λ r. ⌜ ChannelFound (now (body .entry)) group source (channelled r) ⌝ }
+    ensures { λ r. ⌜ ChannelFound (now (body .entry)) group source (asChannelled r) ⌝ }
 {
     let x = casm::read::find_channel(body, group, SourceChannel(source));
     Position {
@@ -86,7 +86,7 @@ pub extern "C" fn casm_channel(body: &[u8], group: usize, source: u8) -> Positio
 // Fills a lent list with a body's salvage list, three numbers an entry (place, length, kind): how many entries there are.
 #[no_mangle]
 pub extern "C" fn casm_salvage(body: &[u8], list: &mut [usize]) -> Count
-    ensures { λ r. ⌜ Salvaged (now (body .entry)) (now (list .entry)) (counted r) (now (list .exit)) ⌝ }
+    ensures { λ r. ⌜ Salvaged (now (body .entry)) (now (list .entry)) (asCounted r) (now (list .exit)) ⌝ }
 {
     let x = casm::list::list_salvage(body, list);
     Count {

@@ -13,7 +13,7 @@ use Rattle.layout.proofs.Lists.{flatMap-last}
 use Rattle.layout.proofs.Records.{bytes-length}
 use Rattle.write_chunks.proofs.Tails.{tail-written}
 use Rattle.c_row.specs.declared.row.Row.{Row}
-use Rattle.c_row.specs.Rows.{hasOf, valueOf, rowOf}
+use Rattle.c_row.specs.Rows.{hasOf, valueOf, rowFor}
 use Rattle.c_row.specs.Flat.{rowBytes}
 
 -- ---- one record
@@ -33,18 +33,18 @@ stored-twice b old h s e l =
     ∙ (append-snoc b h (s ∷ drop 28 old) ∙ sym (append-assoc b (h ∷ s ∷ []) (drop 28 old)))))))
 
 stored-of : (r : Record) (old : List ℕ) → 28 ≤ length old
-    → set (set (rowOf r .bytes ++ drop 26 old) 26 (rowOf r .«has_cntt»)) 27 (rowOf r .cntt) ≡ rowBytes r ++ drop 28 old
-unfolding rowOf rowBytes
+    → set (set (rowFor r .bytes ++ drop 26 old) 26 (rowFor r .«has_cntt»)) 27 (rowFor r .cntt) ≡ rowBytes r ++ drop 28 old
+unfolding rowFor rowBytes
 stored-of r old l = stored-twice (bytesOf r) old (hasOf (r .second)) (valueOf (r .second)) (bytes-length r) l
 
-row-bytes-length : (r : Record) → length (rowOf r .bytes) ≡ 26
-unfolding rowOf bytesOf
+row-bytes-length : (r : Record) → length (rowFor r .bytes) ≡ 26
+unfolding rowFor bytesOf
 row-bytes-length r = refl
 
-pub row-width : (r : Record) (row : Row) → row ≡ rowOf r → length (row .bytes) ≡ 26
+pub row-width : (r : Record) (row : Row) → row ≡ rowFor r → length (row .bytes) ≡ 26
 row-width r row e = ap (λ (x : Row). length (x .bytes)) e ∙ row-bytes-length r
 
-pub row-stored : (r : Record) (row : Row) (xs old : List ℕ) → row ≡ rowOf r → 28 ≤ length old → xs ≡ row .bytes ++ drop (length (row .bytes)) old
+pub row-stored : (r : Record) (row : Row) (xs old : List ℕ) → row ≡ rowFor r → 28 ≤ length old → xs ≡ row .bytes ++ drop (length (row .bytes)) old
     → set (set xs 26 (row .«has_cntt»)) 27 (row .cntt) ≡ rowBytes r ++ drop 28 old
 row-stored r row xs old e l q =
     ap (λ (t : List ℕ). set (set t 26 (row .«has_cntt»)) 27 (row .cntt)) (q ∙ ap (λ (k : ℕ). row .bytes ++ drop k old) (row-width r row e))

@@ -14,7 +14,7 @@ use Rattle.layout.specs.declared.record.Record.{Record}
 use Rattle.layout.specs.declared.answer.Counted.{Counted}
 use Rattle.layout.proofs.Lists.{rows-length, getD-rows}
 use Rattle.read_table.specs.declared.Reading.{Reading}
-use Rattle.read_table.specs.Reading.{toldOf, planned, ReadingPlanned}
+use Rattle.read_table.specs.Reading.{toldOf, plannedRecord, ReadingPlanned}
 use Rattle.read_table.proofs.Plans.{told-answer}
 use Rattle.c_row.specs.Flat.{lentRows, rowBytes, RowsRead}
 use Rattle.c_row.proofs.Flats.{rows-lent}
@@ -49,12 +49,12 @@ module _ (body before : List ℕ) (group room : ℕ) (p : Reading) (e : room ≡
   pub count-lent : 28 * p .count ≤ length before
   count-lent = omega (arith, h .fits, rows-lent room (length before) e)
 
-  pub rows-read : (r : Counted) → r ≡ toldOf p → (after : List ℕ) → after ≡ laidFrom (planned body p) (p .count) (p .count) before → RowsRead body group before r after
+  pub rows-read : (r : Counted) → r ≡ toldOf p → (after : List ℕ) → after ≡ laidFrom (plannedRecord body p) (p .count) (p .count) before → RowsRead body group before r after
   rows-read r t after q =
       record {
         answer = told-answer body group room p r h t ∙ ap (λ (k : ℕ). countedAll (recordsRead body group k)) e;
         table =
             q
-            ∙ (lent (planned body p) (p .count) before (recordsRead body group room) (h .records)
+            ∙ (lent (plannedRecord body p) (p .count) before (recordsRead body group room) (h .records)
             ∙ ap (λ (k : ℕ). lentAfter (retold (flatMap rowBytes) (recordsRead body group k)) before) e);
       }

@@ -3,7 +3,7 @@ ghost use mathlib.Core.Path.{_≡_};
 ghost use Prim.Native.Nat.{_≤_};
 ghost use mathlib.Core.List.{_++_};
 ghost use lib.ListN.{length, drop};
-ghost use Rattle.c_row.specs.Flat.{rowBytes, RowsRead};
+ghost use Rattle.c_row.specs.Flat.{rowSize, rowBytes, RowsRead};
 use c_row::flat::row_count;
 use c_row::row::row_of;
 use layout::answer::Counted;
@@ -15,8 +15,8 @@ use read_table::record_at;
 
 // Writes a record's 28 bytes at the start of what is lent.
 fn put_row(out: &mut [u8], r: Record)
-    requires { ⌜ 28 ≤ length (now out) ⌝ }
-    ensures { λ _. ⌜ now (out .exit) ≡ rowBytes r ++ drop 28 (now (out .entry)) ⌝ }
+    requires { ⌜ rowSize ≤ length (now out) ⌝ }
+    ensures { λ _. ⌜ now (out .exit) ≡ rowBytes r ++ drop rowSize (now (out .entry)) ⌝ }
 {
     let row = row_of(r);
     let b = row.bytes;

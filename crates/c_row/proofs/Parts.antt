@@ -8,13 +8,13 @@ use Rattle.layout.specs.declared.record.SecondTable.{SecondTable}
 use Rattle.layout.specs.Records.{bytesOf, recordOf}
 use Rattle.layout.proofs.Records.{bytes-length}
 use Rattle.layout.proofs.BytesBack.{read-bytes}
-use Rattle.c_row.specs.Rows.{secondOf}
+use Rattle.c_row.specs.Rows.{secondBy}
 use Rattle.c_row.specs.Flat.{recordIn}
 
 module _ (row : List ℕ) where
   pub row-bytes : length row ≡ 28 → take 26 row ≡ bytesOf (recordIn row)
   unfolding recordIn
-  row-bytes h = sym (read-bytes row (secondOf (getD row 26 0) (getD row 27 0)) (omega (arith, h)))
+  row-bytes h = sym (read-bytes row (secondBy (getD row 26 0) (getD row 27 0)) (omega (arith, h)))
 
   row-held : length row ≡ 28 → length (take 26 row) ≡ 26
   row-held h = ap length (row-bytes h) ∙ bytes-length (recordIn row)
@@ -26,6 +26,6 @@ module _ (row : List ℕ) where
       let z : drop (length (take 26 row)) old ≡ [] = drop-of-length-le old k in
       e ∙ (ap (λ (x : List ℕ). take 26 row ++ x) z ∙ (append-nil (take 26 row) ∙ row-bytes h))
 
-  pub row-record : (second : SecondTable) → second ≡ secondOf (getD row 26 0) (getD row 27 0) → recordOf row second ≡ recordIn row
+  pub row-record : (second : SecondTable) → second ≡ secondBy (getD row 26 0) (getD row 27 0) → recordOf row second ≡ recordIn row
   unfolding recordIn
   row-record second e = ap (recordOf row) e

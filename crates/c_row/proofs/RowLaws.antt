@@ -9,7 +9,7 @@ use Rattle.layout.specs.declared.record.SecondTable.{SecondTable}
 use Rattle.layout.specs.declared.record.SecondTable.the-variants.{Absent, Value}
 use Rattle.layout.specs.declared.record.Record.{Record}
 use Rattle.layout.specs.Records.{bytesOf, recordOf}
-use Rattle.c_row.specs.Rows.{secondOf, hasOf, valueOf, rowOf}
+use Rattle.c_row.specs.Rows.{secondBy, hasOf, valueOf, rowFor}
 
 module _ {A : Type 0} (d : A) where
   -- n elements from k on
@@ -28,20 +28,20 @@ module _ {A : Type 0} (d : A) where
   pub its-elements : (l : List A) (n : ℕ) → length l ≡ n → elements l 0 n ≡ l
   its-elements l n e = subst (λ (m : ℕ). elements l 0 m ≡ l) e (all l)
 
-pub second-absent : (has cntt : ℕ) → has ≡ 0 → Absent ≡ secondOf has cntt
-unfolding secondOf
+pub second-absent : (has cntt : ℕ) → has ≡ 0 → Absent ≡ secondBy has cntt
+unfolding secondBy
 second-absent has cntt h = sym (ap (λ (t : Bool). cond t Absent (Value cntt)) (eq-eqb has 0 h))
 
-pub second-there : (has cntt : ℕ) → (has ≡ 0 → ⊥) → Value cntt ≡ secondOf has cntt
-unfolding secondOf
+pub second-there : (has cntt : ℕ) → (has ≡ 0 → ⊥) → Value cntt ≡ secondBy has cntt
+unfolding secondBy
 second-there has cntt h = sym (ap (λ (t : Bool). cond t Absent (Value cntt)) (ne-eqb has 0 h))
 
-pub row-absent : (r : Record) (b : List ℕ) → b ≡ bytesOf r → r .second ≡ Absent → record { bytes = b; «has_cntt» = 0; cntt = 0 } ≡ rowOf r
-unfolding rowOf hasOf valueOf
+pub row-absent : (r : Record) (b : List ℕ) → b ≡ bytesOf r → r .second ≡ Absent → record { bytes = b; «has_cntt» = 0; cntt = 0 } ≡ rowFor r
+unfolding rowFor hasOf valueOf
 row-absent r b e h = rw (e, h)
 
-pub row-there : (r : Record) (b : List ℕ) (v : ℕ) → b ≡ bytesOf r → r .second ≡ Value v → record { bytes = b; «has_cntt» = 1; cntt = v } ≡ rowOf r
-unfolding rowOf hasOf valueOf
+pub row-there : (r : Record) (b : List ℕ) (v : ℕ) → b ≡ bytesOf r → r .second ≡ Value v → record { bytes = b; «has_cntt» = 1; cntt = v } ≡ rowFor r
+unfolding rowFor hasOf valueOf
 row-there r b v e h = rw (e, h)
 
 -- the record of a row's bytes and the second table that was made of the other two

@@ -1,33 +1,39 @@
 -- Channel records as a flat table: 28 bytes each, bytes 0-25, whether there is a Cntt (0 for none) and the Cntt's value.
-use Prim.Native.Nat.{ℕ, _*_, _/_}
+use Prim.Native.Nat.{ℕ, _+_, _*_, _/_}
 use mathlib.Core.Path.{_≡_}
 use mathlib.Core.List.{List, [], _∷_, _++_, flatMap}
 use lib.ListN.{length, getD, take, drop}
 use Rattle.layout.specs.Lists.{rows}
 use Rattle.layout.specs.Answers.{retold, lentAfter, countedAll}
 use Rattle.layout.specs.Asked.{recordsRead}
+use Rattle.layout.specs.declared.edition.Edition.the-variants.{First}
+use Rattle.layout.specs.Editions.{held}
 use Rattle.layout.specs.Records.{bytesOf, recordOf}
 use Rattle.layout.specs.declared.record.Record.{Record}
 use Rattle.layout.specs.declared.answer.Counted.{Counted}
-use Rattle.c_row.specs.Rows.{secondOf, hasOf, valueOf}
+use Rattle.c_row.specs.Rows.{secondBy, hasOf, valueOf}
+
+-- a row: the bytes of a record that are held, whether there is a Cntt, and its value
+abbrev pub rowSize : ℕ
+rowSize = held First + 2
 
 -- how many records a table of so many bytes lends: what is left over is no record
 abbrev pub lentRows : ℕ → ℕ
-lentRows size = size / 28
+lentRows size = size / rowSize
 
 -- the record that stands at the start
 unfoldable pub recordIn : List ℕ → Record
-recordIn p = recordOf p (secondOf (getD p 26 0) (getD p 27 0))
+recordIn p = recordOf p (secondBy (getD p 26 0) (getD p 27 0))
 
 -- record number i
 unfoldable pub flatRecord : List ℕ → ℕ → Record
-flatRecord flat i = recordIn (take 28 (drop (28 * i) flat))
+flatRecord flat i = recordIn (take rowSize (drop (rowSize * i) flat))
 
 -- the records that are lent
 abbrev pub tableOf : List ℕ → List Record
 tableOf flat = rows (flatRecord flat) 0 (lentRows (length flat))
 
--- a record as its 28 bytes
+-- a record as a row
 unfoldable pub rowBytes : Record → List ℕ
 rowBytes r = bytesOf r ++ (hasOf (r .second) ∷ valueOf (r .second) ∷ [])
 

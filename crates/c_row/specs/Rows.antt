@@ -14,12 +14,12 @@ abbrev pub channel : ℕ → SourceChannel
 channel n = record { 0 = n }
 
 -- the second table of a record: none where the first number is 0, whatever the other is
-unfoldable pub secondOf : ℕ → ℕ → SecondTable
-secondOf has cntt = cond (eqb has 0) Absent (Value cntt)
+unfoldable pub secondBy : ℕ → ℕ → SecondTable
+secondBy has cntt = cond (eqb has 0) Absent (Value cntt)
 
 -- the record that crosses
 abbrev pub recorded : Row → Record
-recorded r = recordOf (r .bytes) (secondOf (r .«has_cntt») (r .cntt))
+recorded r = recordOf (r .bytes) (secondBy (r .«has_cntt») (r .cntt))
 
 -- whether a second table is there
 unfoldable pub hasOf : SecondTable → ℕ
@@ -32,5 +32,5 @@ valueOf Absent = 0
 valueOf (Value v) = v
 
 -- a record as it crosses back
-unfoldable pub rowOf : Record → Row
-rowOf r = record { bytes = bytesOf r; «has_cntt» = hasOf (r .second); cntt = valueOf (r .second) }
+unfoldable pub rowFor : Record → Row
+rowFor r = record { bytes = bytesOf r; «has_cntt» = hasOf (r .second); cntt = valueOf (r .second) }

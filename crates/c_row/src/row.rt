@@ -1,7 +1,7 @@
 // A channel record as a row: 26 bytes and two more for its Cntt.
 ghost use mathlib.Core.Path.{_≡_};
 ghost use Rattle.layout.specs.Records.{recordOf};
-ghost use Rattle.c_row.specs.Rows.{secondOf, recorded, rowOf};
+ghost use Rattle.c_row.specs.Rows.{secondBy, recorded, rowFor};
 use layout::record::Record;
 use layout::record::SecondTable;
 use layout::size::HELD;
@@ -15,8 +15,8 @@ pub struct Row {
 }
 
 // The second table: none where `has_cntt` is 0.
-pub fn second_of(has_cntt: u8, cntt: u8) -> SecondTable
-    ensures { λ r. ⌜ r ≡ secondOf «has_cntt» cntt ⌝ }
+pub fn second_by(has_cntt: u8, cntt: u8) -> SecondTable
+    ensures { λ r. ⌜ r ≡ secondBy «has_cntt» cntt ⌝ }
 {
     if has_cntt == 0 {
         return SecondTable::Absent;
@@ -32,16 +32,16 @@ fn made(bytes: [u8; HELD], second: SecondTable) -> Record
 }
 
 // The record itself.
-pub fn record_of(row: Row) -> Record
+pub fn recorded(row: Row) -> Record
     ensures { λ r. ⌜ r ≡ recorded row ⌝ }
 {
     let bytes = row.bytes;
-    made(bytes, second_of(row.has_cntt, row.cntt))
+    made(bytes, second_by(row.has_cntt, row.cntt))
 }
 
 // A record as it crosses.
 pub fn row_of(from: Record) -> Row
-    ensures { λ r. ⌜ r ≡ rowOf from ⌝ }
+    ensures { λ r. ⌜ r ≡ rowFor from ⌝ }
 {
     let second = from.second;
     let bytes = read_record::held::bytes_of(from);

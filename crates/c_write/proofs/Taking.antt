@@ -18,7 +18,7 @@ use Rattle.write_plan.specs.Checking.{begun, recordsNever, Looking as Looked, l
 use Rattle.write_plan.proofs.Length.{looking, records-within}
 use Rattle.write_chunks.proofs.Putting.{Putting, ctabs, ctabs-next}
 use Rattle.c_row.specs.Flat.{lentRows, recordIn, flatRecord, tableOf}
-use Rattle.c_row.specs.Rows.{secondOf}
+use Rattle.c_row.specs.Rows.{secondBy}
 use Rattle.c_row.proofs.Parts.{row-record}
 
 pub table-length : (flat : List ℕ) → length (tableOf flat) ≡ lentRows (length flat)
@@ -37,7 +37,7 @@ unfolding flatRecord
 stands flat i row e = ap recordIn e
 
 -- a row looked at as its bytes and its last two
-pub row-looked : (x : Checked) (i : ℕ) (row : List ℕ) (second : SecondTable) (y : Checked) (before after : List ℕ) → second ≡ secondOf (getD row 26 0) (getD row 27 0)
+pub row-looked : (x : Checked) (i : ℕ) (row : List ℕ) (second : SecondTable) (y : Checked) (before after : List ℕ) → second ≡ secondBy (getD row 26 0) (getD row 27 0)
     → (y ≡ looked x i (recordOf row second)) × (after ≡ laidAfter before x i (recordOf row second))
     → (y ≡ looked x i (recordIn row)) × (after ≡ laidAfter before x i (recordIn row))
 row-looked x i row second y before after e q =

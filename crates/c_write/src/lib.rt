@@ -1,15 +1,18 @@
 // A group written from a flat table of records (document 01, "Writing and editing"). The rows are taken one at a time as they stand: no record of one is made, and no table of them.
 ghost use mathlib.Core.Path.{_≡_};
 ghost use mathlib.Core.List.{flatMap};
-ghost use Prim.Native.Nat.{_+_, _*_, _≤_};
+ghost use Prim.Native.Nat.{_+_, _≤_};
 ghost use lib.ListN.{length, take};
 ghost use Rattle.layout.specs.Edit.{replaced};
+ghost use Rattle.layout.specs.Editions.{size};
+ghost use Rattle.layout.specs.Group.{ctabPlace};
 ghost use Rattle.layout.specs.Promises.{GroupWritten};
+ghost use Rattle.layout.specs.declared.edition.Edition.the-variants.{First};
 ghost use Rattle.layout.specs.Write.{ctabBytes};
 ghost use Rattle.write_plan.specs.Checking.{Looking, looked, laidAfter, planOf};
-ghost use Rattle.c_row.specs.Flat.{lentRows, recordIn, tableOf};
+ghost use Rattle.c_row.specs.Flat.{rowSize, lentRows, recordIn, tableOf};
 use c_row::flat::row_count;
-use c_row::row::second_of;
+use c_row::row::second_by;
 use layout::answer::Measured;
 use layout::size::HELD;
 use layout::size::ROW;
@@ -26,10 +29,10 @@ use write_plan::plan_for;
 
 // Row number i looked at as the record that it stands for.
 fn look_at_row(x: Checked, i: usize, row: &[u8], cntts: &mut [u8; 32]) -> Checked
-    requires { ⌜ (length (now row) ≡ 28) × Looking x i ⌝ }
+    requires { ⌜ (length (now row) ≡ rowSize) × Looking x i ⌝ }
     ensures { λ y. ⌜ (y ≡ looked x i (recordIn (now (row .entry)))) × (now (cntts .exit) ≡ laidAfter (now (cntts .entry)) x i (recordIn (now (row .entry)))) ⌝ }
 {
-    let second = second_of(row[26], row[27]);
+    let second = second_by(row[26], row[27]);
     look_at_bytes(x, i, row, second, cntts)
 }
 
@@ -59,9 +62,9 @@ fn plan_rows(text: &[u8], flat: &[u8], count: usize, room: usize) -> Plan
 
 // Ctab number i of those from `at` on, of a row.
 // The 26 bytes are taken out whole before any is stored: a store might else change what is still to be read, and each would go alone.
-fn put_row(out: &mut [u8], at: usize, i: usize, row: &[u8])
-    requires { ⌜ (length (now row) ≡ 28) × (at + 35 * i + 35 ≤ length (now out)) ⌝ }
-    ensures { λ _. ⌜ now (out .exit) ≡ replaced (now (out .entry)) (at + 35 * i) (ctabBytes (recordIn (now (row .entry)))) ⌝ }
+fn put_row_ctab(out: &mut [u8], at: usize, i: usize, row: &[u8])
+    requires { ⌜ (length (now row) ≡ rowSize) × (ctabPlace First at i + (8 + size First) ≤ length (now out)) ⌝ }
+    ensures { λ _. ⌜ now (out .exit) ≡ replaced (now (out .entry)) (ctabPlace First at i) (ctabBytes (recordIn (now (row .entry)))) ⌝ }
 {
     let mut b = [0u8; HELD];
     put_bytes(&mut b, &row[0..HELD]);
@@ -69,14 +72,14 @@ fn put_row(out: &mut [u8], at: usize, i: usize, row: &[u8])
 }
 
 // The Ctabs of the first n records, one after the other from `at` on.
-fn put_ctabs(flat: &[u8], n: usize, out: &mut [u8], at: usize)
-    requires { ⌜ (n ≤ lentRows (length (now flat))) × (at + 35 * n ≤ length (now out)) ⌝ }
+fn put_row_ctabs(flat: &[u8], n: usize, out: &mut [u8], at: usize)
+    requires { ⌜ (n ≤ lentRows (length (now flat))) × (ctabPlace First at n ≤ length (now out)) ⌝ }
     ensures { λ _. ⌜ now (out .exit) ≡ replaced (now (out .entry)) at (flatMap ctabBytes (take n (tableOf (now (flat .entry))))) ⌝ }
 {
     let mut i: usize = 0;
     while i < n {
         let from = ROW * i;
-        put_row(out, at, i, &flat[from..from + ROW]);
+        put_row_ctab(out, at, i, &flat[from..from + ROW]);
         i += 1;
     }
 }
@@ -87,6 +90,6 @@ pub fn write_rows(text: &[u8], flat: &[u8], count: usize, out: &mut [u8]) -> Mea
 {
     let plan = plan_rows(text, flat, count, out.len());
     let at = put_frame(out, text, plan);
-    put_ctabs(flat, plan.records, out, at);
+    put_row_ctabs(flat, plan.records, out, at);
     measured(plan)
 }

@@ -14,7 +14,7 @@ use Rattle.c_export.proofs.tables.casm_write.Met as casm-write
 use Rattle.c_export.proofs.tables.casm_records.Met as casm-records
 use Rattle.c_row.specs.Rows.{recorded}
 use Rattle.c_row.specs.Flat.{tableOf}
-use Rattle.c_export.specs.Crossing.{answered, counted, measured, located, named, grouped, channelled, spanned, played, placed}
+use Rattle.c_export.specs.Crossing.{answered, asCounted, asMeasured, asLocated, asNamed, asGrouped, asChannelled, asSpanned, asPlayed, asPlaced}
 use Rattle.law_refusals.proofs.Calls.{casm-given, body-given, group-given, part-given, channel-given, voice-given, players-given, note-given}
 use Rattle.law_refusals.proofs.Changes.{write-given, edit-given, salvage-given}
 use Rattle.law_refusals.proofs.Kept.{buffer-kept, body-kept, list-kept}
@@ -41,31 +41,31 @@ every-c-call-ends =
     }
 
 pub find-refuses : FindRefuses
-find-refuses file r p = record { given = casm-given file (located r) p; nothing = casm-nothing file (located r) p }
+find-refuses file r p = record { given = casm-given file (asLocated r) p; nothing = casm-nothing file (asLocated r) p }
 
 pub body-refuses : BodyRefuses
-body-refuses body r p = record { given = body-given body (counted r) p; nothing = body-nothing body (counted r) p }
+body-refuses body r p = record { given = body-given body (asCounted r) p; nothing = body-nothing body (asCounted r) p }
 
 pub part-refuses : PartRefuses
-part-refuses body part r p = record { given = part-given body part (named r) p; nothing = part-nothing body part (named r) p }
+part-refuses body part r p = record { given = part-given body part (asNamed r) p; nothing = part-nothing body part (asNamed r) p }
 
 pub group-refuses : GroupRefuses
-group-refuses body group r p = record { given = group-given body group (grouped r) p; nothing = group-nothing body group (grouped r) p }
+group-refuses body group r p = record { given = group-given body group (asGrouped r) p; nothing = group-nothing body group (asGrouped r) p }
 
 pub channel-refuses : ChannelRefuses
-channel-refuses body group source r p = record { given = channel-given body group source (channelled r) p; nothing = channel-nothing body group source (channelled r) p }
+channel-refuses body group source r p = record { given = channel-given body group source (asChannelled r) p; nothing = channel-nothing body group source (asChannelled r) p }
 
 pub salvage-refuses : SalvageRefuses
-salvage-refuses body before r after p = record { given = salvage-given body before (counted r) after p; nothing = list-kept body before (counted r) after p }
+salvage-refuses body before r after p = record { given = salvage-given body before (asCounted r) after p; nothing = list-kept body before (asCounted r) after p }
 
 pub plays-refuses : PlaysRefuses
-plays-refuses body part root type r p = record { given = players-given body part root type (played r) p; nothing = players-nobody body part root type r p }
+plays-refuses body part root type r p = record { given = players-given body part root type (asPlayed r) p; nothing = players-nobody body part root type r p }
 
 pub voice-refuses : VoiceRefuses
-voice-refuses body group source r p = record { given = voice-given body group source (spanned r) p; nothing = voice-nothing body group source (spanned r) p }
+voice-refuses body group source r p = record { given = voice-given body group source (asSpanned r) p; nothing = voice-nothing body group source (asSpanned r) p }
 
 pub place-refuses : PlaceRefuses
-place-refuses row root note r p = record { given = note-given (recorded row) root note (placed r) p; nothing = note-nothing (recorded row) root note (placed r) p }
+place-refuses row root note r p = record { given = note-given (recorded row) root note (asPlaced r) p; nothing = note-nothing (recorded row) root note (asPlaced r) p }
 
 pub edit-refuses : EditRefuses
 edit-refuses before group source row r after p =
@@ -76,8 +76,8 @@ field-refuses row index value r p = record { given = field-crossed-given row ind
 
 pub write-refuses : WriteRefuses
 write-refuses text flat count before r after p =
-    record { given = write-given text (tableOf flat) count before (measured r) after p; nothing = buffer-kept text (tableOf flat) count before (measured r) after p }
+    record { given = write-given text (tableOf flat) count before (asMeasured r) after p; nothing = buffer-kept text (tableOf flat) count before (asMeasured r) after p }
 
 pub records-refuse : RecordsRefuse
 records-refuse body group before r after p =
-    record { given = rows-given body group before (counted r) after p; nothing = rows-kept body group before (counted r) after p }
+    record { given = rows-given body group before (asCounted r) after p; nothing = rows-kept body group before (asCounted r) after p }

@@ -9,7 +9,7 @@ use Rattle.layout.specs.declared.edition.Edition.the-variants.{First}
 use Rattle.layout.specs.Screen.{fieldSet, changed}
 use Rattle.layout.specs.Promises.{CasmFound, BodyRead, GroupFound, PartFound, ChannelFound, VoiceFound, PlaysTold, NotePlaced, GroupWritten, RecordEdited, Salvaged}
 use Rattle.c_row.specs.declared.row.Row.{Row}
-use Rattle.c_row.specs.Rows.{recorded, rowOf}
+use Rattle.c_row.specs.Rows.{recorded, rowFor}
 use Rattle.c_row.specs.Flat.{lentRows, tableOf, RowsRead}
 use Rattle.c_export.specs.declared.answer.Answer.{Answer}
 use Rattle.c_export.specs.declared.answer.Count.{Count}
@@ -22,7 +22,7 @@ use Rattle.c_export.specs.declared.answer.Span.{Span}
 use Rattle.c_export.specs.declared.answer.Players.{Players}
 use Rattle.c_export.specs.declared.answer.Note.{Note}
 use Rattle.c_export.specs.declared.answer.Edited.{Edited}
-use Rattle.c_export.specs.Crossing.{answered, counted, measured, located, named, standing, grouped, channelled, spanned, played, placed, editOf}
+use Rattle.c_export.specs.Crossing.{answered, asCounted, asMeasured, asLocated, asNamed, asStanding, asGrouped, asChannelled, asSpanned, asPlayed, asPlaced, editOf}
 use Rattle.c_export.proofs.reading.casm_find.Statement as casm-find
 use Rattle.c_export.proofs.reading.casm_body.Statement as casm-body
 use Rattle.c_export.proofs.reading.casm_part.Statement as casm-part
@@ -65,50 +65,50 @@ pub record Refusing (Condition : ℕ → ℕ → Type 0) (number place : ℕ) (N
 
 -- casm_find
 abbrev pub FindRefuses : Type 0
-FindRefuses = (file : List ℕ) (r : Section) → CasmFound file (located r) → Refusing (FileRefused file) (r .number) (r .place) ((r .tag ≡ 0) × (r .length ≡ 0))
+FindRefuses = (file : List ℕ) (r : Section) → CasmFound file (asLocated r) → Refusing (FileRefused file) (r .number) (r .place) ((r .tag ≡ 0) × (r .length ≡ 0))
 
 -- casm_body
 abbrev pub BodyRefuses : Type 0
-BodyRefuses = (body : List ℕ) (r : Count) → BodyRead body (counted r) → Refusing (BodyRefused body) (r .number) (r .place) (r .count ≡ 0)
+BodyRefuses = (body : List ℕ) (r : Count) → BodyRead body (asCounted r) → Refusing (BodyRefused body) (r .number) (r .place) (r .count ≡ 0)
 
 -- casm_part
 abbrev pub PartRefuses : Type 0
-PartRefuses = (body part : List ℕ) (r : Holder) → PartFound body part (named r) → Refusing (PartAsked body part) (r .number) (r .place) (r .group ≡ 0)
+PartRefuses = (body part : List ℕ) (r : Holder) → PartFound body part (asNamed r) → Refusing (PartAsked body part) (r .number) (r .place) (r .group ≡ 0)
 
 -- casm_group
 abbrev pub GroupRefuses : Type 0
 GroupRefuses =
-    (body : List ℕ) (group : ℕ) (r : Bounds) → GroupFound body group (grouped r)
-    → Refusing (GroupAsked body group) (r .number) (r .place) (standing r ≡ record { edition = First; at = 0; size = 0; text = 0; length = 0; ctabs = 0; records = 0; cntts = 0; seconds = 0 })
+    (body : List ℕ) (group : ℕ) (r : Bounds) → GroupFound body group (asGrouped r)
+    → Refusing (GroupAsked body group) (r .number) (r .place) (asStanding r ≡ record { edition = First; at = 0; size = 0; text = 0; length = 0; ctabs = 0; records = 0; cntts = 0; seconds = 0 })
 
 -- casm_channel
 abbrev pub ChannelRefuses : Type 0
 ChannelRefuses =
-    (body : List ℕ) (group source : ℕ) (r : Position) → ChannelFound body group source (channelled r)
+    (body : List ℕ) (group source : ℕ) (r : Position) → ChannelFound body group source (asChannelled r)
     → Refusing (ChannelAsked body group source) (r .number) (r .place) ((r .«record» ≡ 0) × (r .at ≡ 0))
 
 -- casm_salvage
 abbrev pub SalvageRefuses : Type 0
 SalvageRefuses =
-    (body before : List ℕ) (r : Count) (after : List ℕ) → Salvaged body before (counted r) after
+    (body before : List ℕ) (r : Count) (after : List ℕ) → Salvaged body before (asCounted r) after
     → Refusing (SalvageRefused body (length before)) (r .number) (r .place) ((after ≡ before) × (r .count ≡ 0))
 
 -- casm_plays
 abbrev pub PlaysRefuses : Type 0
 PlaysRefuses =
-    (body part : List ℕ) (root type : ℕ) (r : Players) → PlaysTold body part root type (played r)
+    (body part : List ℕ) (root type : ℕ) (r : Players) → PlaysTold body part root type (asPlayed r)
     → Refusing (PlayersAsked body part root type) (r .number) (r .place) ((r .count ≡ 0) × (r .channels ≡ replicate 16 0))
 
 -- casm_voice
 abbrev pub VoiceRefuses : Type 0
 VoiceRefuses =
-    (body : List ℕ) (group source : ℕ) (r : Span) → VoiceFound body group source (spanned r)
+    (body : List ℕ) (group source : ℕ) (r : Span) → VoiceFound body group source (asSpanned r)
     → Refusing (ChannelAsked body group source) (r .number) (r .place) ((r .start ≡ 0) × (r .length ≡ 0))
 
 -- casm_place
 abbrev pub PlaceRefuses : Type 0
 PlaceRefuses =
-    (row : Row) (root note : ℕ) (r : Note) → NotePlaced (recorded row) root note (placed r)
+    (row : Row) (root note : ℕ) (r : Note) → NotePlaced (recorded row) root note (asPlaced r)
     → Refusing (PlaceRefused (recorded row) root note) (r .number) (r .place) ((r .silent ≡ false) × (r .note ≡ 0))
 
 -- casm_edit
@@ -121,16 +121,16 @@ EditRefuses =
 abbrev pub FieldRefuses : Type 0
 FieldRefuses =
     (row : Row) (index value : ℕ) (r : Edited) → r ≡ editOf (changed (recorded row) (fieldSet (recorded row) index value))
-    → Refusing (FieldRefused index value) (r .number) (r .place) (r .held ≡ rowOf (recorded row))
+    → Refusing (FieldRefused index value) (r .number) (r .place) (r .held ≡ rowFor (recorded row))
 
 -- casm_write
 abbrev pub WriteRefuses : Type 0
 WriteRefuses =
-    (text flat : List ℕ) (count : ℕ) (before : List ℕ) (r : Length) (after : List ℕ) → GroupWritten text (tableOf flat) count before (measured r) after
+    (text flat : List ℕ) (count : ℕ) (before : List ℕ) (r : Length) (after : List ℕ) → GroupWritten text (tableOf flat) count before (asMeasured r) after
     → Refusing (WriteRefused text (tableOf flat) count (length before)) (r .number) (r .place) ((after ≡ before) × (r .length ≡ 0))
 
 -- casm_records
 abbrev pub RecordsRefuse : Type 0
 RecordsRefuse =
-    (body : List ℕ) (group : ℕ) (before : List ℕ) (r : Count) (after : List ℕ) → RowsRead body group before (counted r) after
+    (body : List ℕ) (group : ℕ) (before : List ℕ) (r : Count) (after : List ℕ) → RowsRead body group before (asCounted r) after
     → Refusing (RecordsAsked body group (lentRows (length before))) (r .number) (r .place) ((after ≡ before) × (r .count ≡ 0))

@@ -9,7 +9,7 @@ use Rattle.layout.specs.Lists.{All}
 use Rattle.layout.specs.Body.{bodyLimit}
 use Rattle.layout.specs.Salvage.{Entry, salvage}
 use Rattle.layout.specs.Promises.{Salvaged}
-use Rattle.law_salvage.specs.Salvage.{Covers, bytesOf, ReadsAsOne, GroupsBody, NoneCompleted, groupsFrom, moved, movedByChange, Listed}
+use Rattle.law_salvage.specs.Salvage.{Covers, entryBytes, ReadsAsOne, GroupsBody, NoneCompleted, groupsFrom, moved, movedByChange, Listed}
 use Rattle.demands.specs.Examples.{M, N, entry}
 
 -- ---- "Take a section body of sound groups .. Put other bytes, of any number, in place of one group"
@@ -61,11 +61,11 @@ EntriesCover = (s : List ℕ) → Covers 0 (salvage s) (length s)
 
 -- .. so their bytes, one after the other, are the body
 abbrev pub EntriesGiveBack : Type 0
-EntriesGiveBack = (s : List ℕ) → flatten (map (bytesOf s) (salvage s)) ≡ s
+EntriesGiveBack = (s : List ℕ) → flatten (map (entryBytes s) (salvage s)) ≡ s
 
 -- "an entry is called a group exactly when its bytes read as one"
 abbrev pub KindsAreExact : Type 0
-KindsAreExact = (s : List ℕ) → length s ≤ bodyLimit → All (λ (e : Entry). (e .kind ≡ 0) ↔ ReadsAsOne (bytesOf s e)) (salvage s)
+KindsAreExact = (s : List ℕ) → length s ≤ bodyLimit → All (λ (e : Entry). (e .kind ≡ 0) ↔ ReadsAsOne (entryBytes s e)) (salvage s)
 
 -- every call that accepts had a body within the limit, and gives the salvage list of that body
 abbrev pub CallsList : Type 0

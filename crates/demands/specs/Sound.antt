@@ -7,7 +7,7 @@ use mathlib.Core.List.{List}
 use Rattle.layout.specs.Lists.{All}
 use Rattle.layout.specs.Sdec.{soundText}
 use Rattle.layout.specs.Salvage.{Entry, salvage}
-use Rattle.law_salvage.specs.Salvage.{bytesOf}
+use Rattle.law_salvage.specs.Salvage.{entryBytes}
 use Rattle.law_refusals.specs.Text.{TextBroken}
 use Rattle.law_refusals.specs.Body.{GroupRefused, GroupStands}
 use Rattle.law_refusals.specs.Salvage.{EntryRefused}
@@ -22,4 +22,4 @@ GroupStandsExactly = (p : List ℕ) → GroupStands p ↔ ((number place : ℕ) 
 
 -- an entry of a salvage list whose bytes meet a refusal's condition has that kind
 abbrev pub RefusalsAreKinds : Type 0
-RefusalsAreKinds = (body : List ℕ) → All (λ (e : Entry). (number : ℕ) → EntryRefused (bytesOf body e) number → e .kind ≡ number) (salvage body)
+RefusalsAreKinds = (body : List ℕ) → All (λ (e : Entry). (number : ℕ) → EntryRefused (entryBytes body e) number → e .kind ≡ number) (salvage body)

@@ -7,7 +7,7 @@ use Rattle.layout.specs.declared.record.SourceChannel.{SourceChannel}
 use Rattle.layout.specs.declared.answer.Played.{Played}
 use Rattle.c_row.specs.Rows.{channel}
 use Rattle.c_export.specs.declared.answer.Players.{Players}
-use Rattle.c_export.specs.Crossing.{played}
+use Rattle.c_export.specs.Crossing.{asPlayed}
 use Rattle.law_salvage.specs.Determined.{Determines, DeterminesBoth}
 
 -- ---- a promise about what an answer stands for
@@ -40,7 +40,7 @@ numbers-back (n ∷ ns) = ap (λ (ms : List ℕ). n ∷ ms) (numbers-back ns)
 abbrev pub players : Played → Players
 players p = record { number = p .number; place = p .place; count = p .count; channels = map channel-number (p .channels) }
 
-pub players-back : (r : Players) → players (played r) ≡ r
+pub players-back : (r : Players) → players (asPlayed r) ≡ r
 players-back r = ap {B = Players} (λ (ns : List ℕ). record { number = r .number; place = r .place; count = r .count; channels = ns }) (numbers-back (r .channels))
 
 -- ---- a list in two parts

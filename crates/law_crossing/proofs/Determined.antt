@@ -29,7 +29,7 @@ use Rattle.c_export.specs.declared.answer.Span.{Span}
 use Rattle.c_export.specs.declared.answer.Players.{Players}
 use Rattle.c_export.specs.declared.answer.Note.{Note}
 use Rattle.c_export.specs.declared.answer.Edited.{Edited}
-use Rattle.c_export.specs.Crossing.{answered, counted, measured, located, named, grouped, channelled, spanned, played, placed, editOf}
+use Rattle.c_export.specs.Crossing.{answered, asCounted, asMeasured, asLocated, asNamed, asGrouped, asChannelled, asSpanned, asPlayed, asPlaced, editOf}
 use Rattle.casm_by_value.specs.declared.Filled.{Filled}
 use Rattle.law_salvage.specs.Determined.{Determines, DeterminesBoth}
 use Rattle.law_salvage.proofs.Determined as face
@@ -79,51 +79,51 @@ note a = record { number = a .number; place = a .place; silent = a .silent; note
 
 -- ---- the calls for C: what is returned alone
 
-pub casm-find : (file : List ℕ) → Determines (λ (r : Section). CasmFound file (located r))
-casm-find file = crossing-determines located section (λ x. refl) (CasmFound file) (face.casm-found file)
+pub casm-find : (file : List ℕ) → Determines (λ (r : Section). CasmFound file (asLocated r))
+casm-find file = crossing-determines asLocated section (λ x. refl) (CasmFound file) (face.casm-found file)
 
-pub casm-body : (body : List ℕ) → Determines (λ (r : Count). BodyRead body (counted r))
-casm-body body = crossing-determines counted count (λ x. refl) (BodyRead body) (face.body-read body)
+pub casm-body : (body : List ℕ) → Determines (λ (r : Count). BodyRead body (asCounted r))
+casm-body body = crossing-determines asCounted count (λ x. refl) (BodyRead body) (face.body-read body)
 
-pub casm-part : (body part : List ℕ) → Determines (λ (r : Holder). PartFound body part (named r))
-casm-part body part = crossing-determines named holder (λ x. refl) (PartFound body part) (face.part-found body part)
+pub casm-part : (body part : List ℕ) → Determines (λ (r : Holder). PartFound body part (asNamed r))
+casm-part body part = crossing-determines asNamed holder (λ x. refl) (PartFound body part) (face.part-found body part)
 
-pub casm-group : (body : List ℕ) (group : ℕ) → Determines (λ (r : Bounds). GroupFound body group (grouped r))
-casm-group body group = crossing-determines grouped bounds (λ x. refl) (GroupFound body group) (face.group-found body group)
+pub casm-group : (body : List ℕ) (group : ℕ) → Determines (λ (r : Bounds). GroupFound body group (asGrouped r))
+casm-group body group = crossing-determines asGrouped bounds (λ x. refl) (GroupFound body group) (face.group-found body group)
 
-pub casm-channel : (body : List ℕ) (group source : ℕ) → Determines (λ (r : Position). ChannelFound body group source (channelled r))
-casm-channel body group source = crossing-determines channelled position (λ x. refl) (ChannelFound body group source) (face.channel-found body group source)
+pub casm-channel : (body : List ℕ) (group source : ℕ) → Determines (λ (r : Position). ChannelFound body group source (asChannelled r))
+casm-channel body group source = crossing-determines asChannelled position (λ x. refl) (ChannelFound body group source) (face.channel-found body group source)
 
-pub casm-voice : (body : List ℕ) (group source : ℕ) → Determines (λ (r : Span). VoiceFound body group source (spanned r))
-casm-voice body group source = crossing-determines spanned span (λ x. refl) (VoiceFound body group source) (face.voice-found body group source)
+pub casm-voice : (body : List ℕ) (group source : ℕ) → Determines (λ (r : Span). VoiceFound body group source (asSpanned r))
+casm-voice body group source = crossing-determines asSpanned span (λ x. refl) (VoiceFound body group source) (face.voice-found body group source)
 
-pub casm-plays : (body part : List ℕ) (root type : ℕ) → Determines (λ (r : Players). PlaysTold body part root type (played r))
-casm-plays body part root type = crossing-determines played players players-back (PlaysTold body part root type) (face.plays-told body part root type)
+pub casm-plays : (body part : List ℕ) (root type : ℕ) → Determines (λ (r : Players). PlaysTold body part root type (asPlayed r))
+casm-plays body part root type = crossing-determines asPlayed players players-back (PlaysTold body part root type) (face.plays-told body part root type)
 
-pub casm-place : (row : Row) (root n : ℕ) → Determines (λ (r : Note). NotePlaced (recorded row) root n (placed r))
-casm-place row root n = crossing-determines placed note (λ x. refl) (NotePlaced (recorded row) root n) (face.note-placed (recorded row) root n)
+pub casm-place : (row : Row) (root n : ℕ) → Determines (λ (r : Note). NotePlaced (recorded row) root n (asPlaced r))
+casm-place row root n = crossing-determines asPlaced note (λ x. refl) (NotePlaced (recorded row) root n) (face.note-placed (recorded row) root n)
 
 pub casm-field : (row : Row) (index value : ℕ) → Determines (λ (r : Edited). r ≡ editOf (changed (recorded row) (fieldSet (recorded row) index value)))
 casm-field row index value x y p q = p ∙ sym q
 
 -- ---- .. and with lent memory at exit
 
-pub casm-salvage : (body before : List ℕ) → DeterminesBoth (λ (r : Count) (after : List ℕ). Salvaged body before (counted r) after)
-casm-salvage body before = crossing-determines-both counted count (λ x. refl) (Salvaged body before) (face.salvaged body before)
+pub casm-salvage : (body before : List ℕ) → DeterminesBoth (λ (r : Count) (after : List ℕ). Salvaged body before (asCounted r) after)
+casm-salvage body before = crossing-determines-both asCounted count (λ x. refl) (Salvaged body before) (face.salvaged body before)
 
 pub casm-edit : (before : List ℕ) (group source : ℕ) (row : Row) → DeterminesBoth (λ (r : Answer) (after : List ℕ). RecordEdited before group source (recorded row) (answered r) after)
 casm-edit before group source row =
     crossing-determines-both answered answer (λ x. refl) (RecordEdited before group source (recorded row)) (face.record-edited before group source (recorded row))
 
-pub casm-write : (text flat : List ℕ) (n : ℕ) (before : List ℕ) → DeterminesBoth (λ (r : Length) (after : List ℕ). GroupWritten text (tableOf flat) n before (measured r) after)
+pub casm-write : (text flat : List ℕ) (n : ℕ) (before : List ℕ) → DeterminesBoth (λ (r : Length) (after : List ℕ). GroupWritten text (tableOf flat) n before (asMeasured r) after)
 casm-write text flat n before =
-    crossing-determines-both measured size (λ x. refl) (GroupWritten text (tableOf flat) n before) (face.group-written text (tableOf flat) n before)
+    crossing-determines-both asMeasured size (λ x. refl) (GroupWritten text (tableOf flat) n before) (face.group-written text (tableOf flat) n before)
 
 rows-read : (body : List ℕ) (group : ℕ) (before : List ℕ) → DeterminesBoth (RowsRead body group before)
 rows-read body group before x y u v p q = (p .answer ∙ sym (q .answer), p .table ∙ sym (q .table))
 
-pub casm-records : (body : List ℕ) (group : ℕ) (before : List ℕ) → DeterminesBoth (λ (r : Count) (after : List ℕ). RowsRead body group before (counted r) after)
-casm-records body group before = crossing-determines-both counted count (λ x. refl) (RowsRead body group before) (rows-read body group before)
+pub casm-records : (body : List ℕ) (group : ℕ) (before : List ℕ) → DeterminesBoth (λ (r : Count) (after : List ℕ). RowsRead body group before (asCounted r) after)
+casm-records body group before = crossing-determines-both asCounted count (λ x. refl) (RowsRead body group before) (rows-read body group before)
 
 -- ---- the lent forms by value (`set_with` promises `FieldSet`, as `set_field` does)
 

@@ -12,11 +12,11 @@ use Rattle.layout.specs.Asked.{recordsRead}
 use Rattle.layout.specs.Screen.{fieldSet, changed}
 use Rattle.layout.specs.Promises.{RecordsRead, PlaysTold}
 use Rattle.c_row.specs.declared.row.Row.{Row}
-use Rattle.c_row.specs.Rows.{recorded, rowOf}
+use Rattle.c_row.specs.Rows.{recorded, rowFor}
 use Rattle.c_row.specs.Flat.{lentRows, rowBytes, RowsRead}
 use Rattle.c_export.specs.declared.answer.Players.{Players}
 use Rattle.c_export.specs.declared.answer.Edited.{Edited}
-use Rattle.c_export.specs.Crossing.{played, editOf}
+use Rattle.c_export.specs.Crossing.{asPlayed, editOf}
 use Rattle.casm_by_value.specs.declared.Filled.{Filled}
 use Rattle.law_refusals.specs.Given.{GivenUnder}
 use Rattle.law_refusals.specs.After.{RecordsAsked}
@@ -29,9 +29,9 @@ use Rattle.law_crossing.proofs.Crossed.{numbers-back, channel-number, b
 
 -- ---- casm_plays
 
-pub players-nobody : (s part : List ℕ) (root type : ℕ) (r : Players) → PlaysTold s part root type (played r) → (r .number ≡ 0 → ⊥) → (r .count ≡ 0) × (r .channels ≡ replicate 16 0)
+pub players-nobody : (s part : List ℕ) (root type : ℕ) (r : Players) → PlaysTold s part root type (asPlayed r) → (r .number ≡ 0 → ⊥) → (r .count ≡ 0) × (r .channels ≡ replicate 16 0)
 players-nobody s part root type r p z =
-    let none = players-nothing s part root type (played r) p z in
+    let none = players-nothing s part root type (asPlayed r) p z in
     (none .0, sym (numbers-back (r .channels)) ∙ ap (map channel-number) (none .1))
 
 -- ---- casm_field
@@ -43,9 +43,9 @@ module _ (row : Row) (index value : ℕ) (r : Edited) (p : r ≡ editOf (changed
   pub field-crossed-given : GivenUnder (FieldRefused index value) (r .number) (r .place)
   field-crossed-given = subst (λ (x : Edited). GivenUnder (FieldRefused index value) (x .number) (x .place)) (sym p) (field-given (recorded row) index value told refl)
 
-  pub field-crossed-kept : (r .number ≡ 0 → ⊥) → r .held ≡ rowOf (recorded row)
+  pub field-crossed-kept : (r .number ≡ 0 → ⊥) → r .held ≡ rowFor (recorded row)
   field-crossed-kept z =
-      ap (λ (x : Edited). x .held) p ∙ ap rowOf (field-nothing (recorded row) index value told refl (λ e. z (ap (λ (x : Edited). x .number) p ∙ e)))
+      ap (λ (x : Edited). x .held) p ∙ ap rowFor (field-nothing (recorded row) index value told refl (λ e. z (ap (λ (x : Edited). x .number) p ∙ e)))
 
 -- ---- casm_records: the same question as of a table of so many records
 

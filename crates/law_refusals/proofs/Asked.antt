@@ -19,7 +19,7 @@ use Rattle.layout.specs.Sdec.{names}
 use Rattle.layout.specs.Answers.{Answer, refused, granted, afterRun}
 use Rattle.layout.specs.Group.{ctabOf}
 use Rattle.layout.specs.Body.{groupPlace, textAt, bodyRun, groupNo}
-use Rattle.layout.specs.Asked.{standing, ofGroup, groupFound, groupNamed, ofPart, partFound, Row, rowOf, rowIn, ofChannel, channelFound, recordsRead}
+use Rattle.layout.specs.Asked.{standing, ofGroup, groupFound, groupNamed, ofPart, partFound, Whereabouts, rowOf, rowIn, ofChannel, channelFound, recordsRead}
 use Rattle.layout.specs.Voice.{voiceSpan, voiceSpanAt}
 use Rattle.layout.specs.Plays.{playing, whoPlays}
 use Rattle.layout.specs.Edit.{firstEdited, edited}
@@ -55,8 +55,8 @@ module _ {A : Type 0} (P : ℕ → ℕ → Type 0) (s : List ℕ) where
       (λ e. tell (record { count = n; groups = groups; there = leb-false _ _ e })))
 
   -- what is asked of the record of a source channel in it
-  of-channel-told : (g channel : ℕ) → ((number place : ℕ) → ChannelAsked s g channel number place → P number place) → (ask : Row → Answer A)
-      → ((row : Row) → HasChannel s g channel → AnswerTold P (ask row)) → AnswerTold P (ofGroup s g (ofChannel s (standing s g) channel ask))
+  of-channel-told : (g channel : ℕ) → ((number place : ℕ) → ChannelAsked s g channel number place → P number place) → (ask : Whereabouts → Answer A)
+      → ((row : Whereabouts) → HasChannel s g channel → AnswerTold P (ask row)) → AnswerTold P (ofGroup s g (ofChannel s (standing s g) channel ask))
   unfolding ofChannel rowIn
   of-channel-told g channel f ask tell =
       let x : Standing = standing s g in

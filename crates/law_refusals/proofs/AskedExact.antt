@@ -15,7 +15,7 @@ use Rattle.layout.specs.Records.{bytesOf, channelOf}
 use Rattle.layout.specs.Sdec.{names}
 use Rattle.layout.specs.Answers.{Answer, refused, afterRun}
 use Rattle.layout.specs.Body.{groupPlace, textAt, bodyRead, groupNo}
-use Rattle.layout.specs.Asked.{standing, ofGroup, groupFound, groupNamed, ofPart, partFound, Row, rowOf, rowIn, ofChannel, channelFound, recordsRead}
+use Rattle.layout.specs.Asked.{standing, ofGroup, groupFound, groupNamed, ofPart, partFound, Whereabouts, rowOf, rowIn, ofChannel, channelFound, recordsRead}
 use Rattle.layout.specs.Voice.{voiceSpan}
 use Rattle.layout.specs.Plays.{whoPlays}
 use Rattle.layout.specs.Edit.{firstEdited, edited}
@@ -82,7 +82,7 @@ module _ (s : List ℕ) where
 
   -- ---- a source channel
 
-  module _ {A : Type 0} (g channel : ℕ) (ask : Row → Answer A) where
+  module _ {A : Type 0} (g channel : ℕ) (ask : Whereabouts → Answer A) where
     channel-not : (number place : ℕ) → ChannelAsked s g channel number place → ofGroup s g (ofChannel s (standing s g) channel ask) ≡ refused number place
     unfolding ofChannel rowIn
     channel-not _ _ (channel-of-group number place h) = group-not g _ number place h

@@ -16,7 +16,7 @@ use Rattle.layout.specs.declared.answer.Placed.{Placed}
 use Rattle.layout.specs.declared.answer.Changed.{Changed}
 use Rattle.layout.specs.Answers.{Answer, refused, granted, counted, named, nowhere, grouped, Span, nothing, spanned}
 use Rattle.layout.specs.Body.{bodyRead}
-use Rattle.layout.specs.Asked.{groupFound, partFound, Row, channelFound, noRow, channelled}
+use Rattle.layout.specs.Asked.{groupFound, partFound, Whereabouts, channelFound, noRow, channelled}
 use Rattle.layout.specs.Style.{casmFound, located}
 use Rattle.layout.specs.Plays.{whoPlays, noChannel, inSixteen, played}
 use Rattle.layout.specs.Voice.{voiceSpan}
@@ -47,7 +47,7 @@ pub channel-nothing : (s : List ℕ) (g channel : ℕ) (r : Channelled) → Chan
 unfolding channelled
 channel-nothing s g channel r p z =
     let n = none-given (channelFound s g channel) (r .number) (ap (λ (x : Channelled). x .number) p) z noRow in
-    (ap (λ (x : Channelled). x .row) p ∙ ap (λ (x : Row). x .index) n, ap (λ (x : Channelled). x .at) p ∙ ap (λ (x : Row). x .at) n)
+    (ap (λ (x : Channelled). x .row) p ∙ ap (λ (x : Whereabouts). x .index) n, ap (λ (x : Channelled). x .at) p ∙ ap (λ (x : Whereabouts). x .at) n)
 
 pub voice-nothing : (s : List ℕ) (g channel : ℕ) (r : Spanned) → VoiceFound s g channel r → (r .number ≡ 0 → ⊥) → (r .start ≡ 0) × (r .length ≡ 0)
 unfolding spanned

@@ -11,7 +11,7 @@ use Rattle.layout.specs.declared.answer.Spanned.{Spanned}
 use Rattle.layout.specs.declared.answer.Standing.{Standing}
 use Rattle.layout.specs.Answers.{Answer, refused, granted, numberOf, afterRun, partOf, grouped, spanned}
 use Rattle.layout.specs.Body.{bodyRun}
-use Rattle.layout.specs.Asked.{standing, ofGroup, groupFound, Row, rowIn, rowOf, ofChannel, textOf}
+use Rattle.layout.specs.Asked.{standing, ofGroup, groupFound, Whereabouts, rowIn, rowOf, ofChannel, textOf}
 use Rattle.layout.specs.Voice.{trimmed, voiceBytes, voiceName, voiceSpanAt, voiceSpan}
 use Rattle.layout.specs.Promises.{GroupFound, TextShown, VoiceShown, VoiceFound}
 use Rattle.law_refusals.proofs.Kept.{none-given}
@@ -35,11 +35,11 @@ module _ {A B : Type 0} where
   unfolding ofGroup
   group-alike s g a b h = after-alike (bodyRun s) (λ n. cond (leb n g) (refused 16 0) a) (λ n. cond (leb n g) (refused 16 0) b) (λ n. if-alike (leb n g) 16 0 a b h)
 
-  channel-alike : (s : List ℕ) (x : Standing) (channel : ℕ) (f : Row → Answer A) (g : Row → Answer B) → ((row : Row) → Alike (f row) (g row))
+  channel-alike : (s : List ℕ) (x : Standing) (channel : ℕ) (f : Whereabouts → Answer A) (g : Whereabouts → Answer B) → ((row : Whereabouts) → Alike (f row) (g row))
       → Alike (ofChannel s x channel f) (ofChannel s x channel g)
   unfolding ofChannel
   channel-alike s x channel f g h =
-      let row : Row = rowOf x (rowIn s x channel) in
+      let row : Whereabouts = rowOf x (rowIn s x channel) in
       if-alike (leb (x .records) (rowIn s x channel)) 15 0 (f row) (g row) (h row)
 
 pub text-nothing : (s : List ℕ) (g : ℕ) (r : Grouped) (part : List ℕ) → GroupFound s g r → TextShown s g part → (r .number ≡ 0 → ⊥) → part ≡ []

@@ -15,7 +15,7 @@ use Rattle.read_salvage.specs.Cut.{Free, Piece}
 use Rattle.read_salvage.proofs.Cseg.{no-true}
 use Rattle.read_salvage.proofs.Cut.{front-is-free, pieces-are}
 use Rattle.read_salvage.proofs.Verdicts.{size-some, sound-cseg, sound-own}
-use Rattle.law_salvage.specs.Salvage.{bytesOf}
+use Rattle.law_salvage.specs.Salvage.{entryBytes}
 use Rattle.layout.proofs.Elements.{all-append, all-flatMap, all-so}
 use Rattle.read_salvage.proofs.Joined.{parts-joined}
 use Rattle.law_salvage.proofs.Places.{entries-all}
@@ -79,14 +79,14 @@ parts-reasons s =
 
 -- ---- each entry
 
-entry-reasons : (s : List ℕ) → All (λ (e : Entry). Reason (bytesOf s e) (e .kind)) (salvage s)
+entry-reasons : (s : List ℕ) → All (λ (e : Entry). Reason (entryBytes s e) (e .kind)) (salvage s)
 unfolding salvage
 entry-reasons s = rw parts-joined at (entries-all Reason [] (parts s) (parts-reasons s))
 
 -- a kind other than 0 is the refusal of the entry's bytes
-pub kinds-refused : (s : List ℕ) → All (λ (e : Entry). (e .kind ≡ 0 → ⊥) → EntryRefused (bytesOf s e) (e .kind)) (salvage s)
-kinds-refused s = all-so _ _ (λ (e : Entry) (h : Reason (bytesOf s e) (e .kind)). h .only) (salvage s) (entry-reasons s)
+pub kinds-refused : (s : List ℕ) → All (λ (e : Entry). (e .kind ≡ 0 → ⊥) → EntryRefused (entryBytes s e) (e .kind)) (salvage s)
+kinds-refused s = all-so _ _ (λ (e : Entry) (h : Reason (entryBytes s e) (e .kind)). h .only) (salvage s) (entry-reasons s)
 
 -- .. and a refusal of its bytes is its kind
-pub refused-kinds : (s : List ℕ) → All (λ (e : Entry). (number : ℕ) → EntryRefused (bytesOf s e) number → e .kind ≡ number) (salvage s)
-refused-kinds s = all-so _ _ (λ (e : Entry) (h : Reason (bytesOf s e) (e .kind)). h .always) (salvage s) (entry-reasons s)
+pub refused-kinds : (s : List ℕ) → All (λ (e : Entry). (number : ℕ) → EntryRefused (entryBytes s e) number → e .kind ≡ number) (salvage s)
+refused-kinds s = all-so _ _ (λ (e : Entry) (h : Reason (entryBytes s e) (e .kind)). h .always) (salvage s) (entry-reasons s)

@@ -12,7 +12,7 @@ use Rattle.layout.specs.declared.answer.Answered.{Answered}
 use Rattle.layout.specs.Records.{fileBytes}
 use Rattle.layout.specs.Answers.{granted, valueOr, afterRun, answered}
 use Rattle.layout.specs.Body.{groupNo}
-use Rattle.layout.specs.Asked.{standing, rowIn, rowOf, ofGroup, ofChannel, Row, channelFound}
+use Rattle.layout.specs.Asked.{standing, rowIn, rowOf, ofGroup, ofChannel, Whereabouts, channelFound}
 use Rattle.layout.specs.Write.{Whole}
 use Rattle.layout.specs.Edit.{replaced, edited}
 use Rattle.layout.specs.Promises.{RecordEdited}
@@ -30,7 +30,7 @@ use Rattle.law_rounds.proofs.Numbered.{accepts-granted, edited-numbered
 
 module _ (s : List ℕ) (g channel : ℕ) (new : Record) (b : Bytes s) (w : Whole new) (after : List ℕ) (q : EditGranted s after g channel new (standing s g)) where
   -- the record that is replaced, and where its bytes stand
-  abbrev row : Row
+  abbrev row : Whereabouts
   row = rowOf (standing s g) (rowIn s (standing s g) channel)
 
   found : channelFound s g channel ≡ granted row

@@ -11,7 +11,7 @@ use Rattle.layout.specs.Records.{bytesOf, blank, editionOf, fileBytes}
 use Rattle.layout.specs.Answers.{granted}
 use Rattle.layout.specs.Group.{groupSize}
 use Rattle.layout.specs.Body.{groupPlace}
-use Rattle.layout.specs.Asked.{Row, channelFound}
+use Rattle.layout.specs.Asked.{Whereabouts, channelFound}
 use Rattle.layout.specs.Write.{groupBytes, Whole, Allowed, groupFrom}
 use Rattle.layout.specs.Promises.{BodyRead, TextShown, RecordsRead}
 
@@ -63,7 +63,7 @@ pub record ReadBack (body text : List ℕ) (records : List Record) : Type 0 wher
 
 -- "only that Ctab's 27 bytes may change": those of the record that is found for the group and the source channel
 pub record CtabChanged (before : List ℕ) (group channel : ℕ) (new : Record) (after : List ℕ) : Type 0 where
-  pub row : Row
+  pub row : Whereabouts
   pub found : channelFound before group channel ≡ granted row
   pub within : row .at + size (editionOf new) ≤ length before
   pub bytes : after ≡ take (row .at) before ++ (fileBytes new ++ drop (row .at + size (editionOf new)) before)

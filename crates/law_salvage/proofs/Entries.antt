@@ -18,7 +18,7 @@ use Rattle.read_salvage.proofs.Cseg.{no-true, no-cseg}
 use Rattle.read_salvage.proofs.Cut.{front-is-free, pieces-are}
 use Rattle.read_salvage.proofs.Verdicts.{size-some, size-within, sound-cseg, size-own, sound-own}
 use Rattle.read_salvage.proofs.Numbered.{refusal-some}
-use Rattle.law_salvage.specs.Salvage.{Covers, bytesOf, ReadsAsOne, SoundGroup}
+use Rattle.law_salvage.specs.Salvage.{Covers, entryBytes, ReadsAsOne, SoundGroup}
 use Rattle.layout.proofs.Elements.{all-append, all-flatMap, all-so}
 use Rattle.read_salvage.proofs.Joined.{parts-joined}
 use Rattle.law_salvage.proofs.Places.{entries-cover, entries-bytes, entries-all}
@@ -94,26 +94,26 @@ entries-cover-body s =
     (entries-cover 0 (parts s) (all-so _ _ (λ (p : Part) (h : Fact (p .bytes) (p .kind)). h .some) (parts s) (parts-facts s)))
 
 -- their bytes, one after the other, are the body
-pub entries-give-back : (s : List ℕ) → flatten (map (bytesOf s) (salvage s)) ≡ s
+pub entries-give-back : (s : List ℕ) → flatten (map (entryBytes s) (salvage s)) ≡ s
 unfolding salvage
 entries-give-back s =
-    let q : map (bytesOf s) (entriesFrom 0 (parts s)) ≡ map (λ (p : Part). p .bytes) (parts s) = rw parts-joined at (entries-bytes [] (parts s)) in
+    let q : map (entryBytes s) (entriesFrom 0 (parts s)) ≡ map (λ (p : Part). p .bytes) (parts s) = rw parts-joined at (entries-bytes [] (parts s)) in
     rw q (parts-joined s)
 
-entry-facts : (s : List ℕ) → All (λ (e : Entry). Fact (bytesOf s e) (e .kind)) (salvage s)
+entry-facts : (s : List ℕ) → All (λ (e : Entry). Fact (entryBytes s e) (e .kind)) (salvage s)
 unfolding salvage
 entry-facts s = rw parts-joined at (entries-all Fact [] (parts s) (parts-facts s))
 
 -- an entry's bytes are no more than the body's
-bytes-within : (s : List ℕ) (e : Entry) → length (bytesOf s e) ≤ length s
-unfolding bytesOf
+bytes-within : (s : List ℕ) (e : Entry) → length (entryBytes s e) ≤ length s
+unfolding entryBytes
 bytes-within s e = omega (arith, length-take (e .size) (drop (e .place) s), length-drop (e .place) s)
 
 -- an entry has kind 0 exactly when its bytes read as one group
-pub kinds-exact : (s : List ℕ) → length s ≤ 32768 → All (λ (e : Entry). (e .kind ≡ 0) ↔ ReadsAsOne (bytesOf s e)) (salvage s)
+pub kinds-exact : (s : List ℕ) → length s ≤ 32768 → All (λ (e : Entry). (e .kind ≡ 0) ↔ ReadsAsOne (entryBytes s e)) (salvage s)
 kinds-exact s l = all-so _ _ exact (salvage s) (entry-facts s)
   where
-    exact : (e : Entry) → Fact (bytesOf s e) (e .kind) → (e .kind ≡ 0) ↔ ReadsAsOne (bytesOf s e)
+    exact : (e : Entry) → Fact (entryBytes s e) (e .kind) → (e .kind ≡ 0) ↔ ReadsAsOne (entryBytes s e)
     exact e h =
-        let r = reads-exactly (bytesOf s e) (omega (arith, bytes-within s e)) in
+        let r = reads-exactly (entryBytes s e) (omega (arith, bytes-within s e)) in
         (λ z. r .0 (h .exact .0 z), λ o. h .exact .1 (r .1 o))

@@ -8,7 +8,7 @@ use lib.ListN.{length, length-append}
 use lib.Seq.{drop-append-seam, take-append-seam}
 use Rattle.layout.specs.Salvage.{Part, Entry, entriesFrom}
 use Rattle.layout.specs.Lists.{All}
-use Rattle.law_salvage.specs.Salvage.{Covers, bytesOf, groupsFrom, moved, movedByChange}
+use Rattle.law_salvage.specs.Salvage.{Covers, entryBytes, groupsFrom, moved, movedByChange}
 use Rattle.read_salvage.proofs.Joined.{joined, own}
 
 pub entries-append : (i : ℕ) (ps qs : List Part) → entriesFrom i (ps ++ qs) ≡ entriesFrom i ps ++ entriesFrom (i + length (joined ps)) qs
@@ -47,8 +47,8 @@ entries-cover i [] h = sym (add-zero i)
 entries-cover i (p ∷ ps) h = (refl, (h .0, rw (length-append, ← add-assoc) (entries-cover (i + length (p .bytes)) ps (h .1))))
 
 -- the bytes of each entry are those of its part
-pub entries-bytes : (pre : List ℕ) (ps : List Part) → map (bytesOf (pre ++ joined ps)) (entriesFrom (length pre) ps) ≡ map (λ (p : Part). p .bytes) ps
-unfolding entriesFrom flatten bytesOf
+pub entries-bytes : (pre : List ℕ) (ps : List Part) → map (entryBytes (pre ++ joined ps)) (entriesFrom (length pre) ps) ≡ map (λ (p : Part). p .bytes) ps
+unfolding entriesFrom flatten entryBytes
 entries-bytes pre [] = refl
 entries-bytes pre (p ∷ ps) =
     let r = entries-bytes (pre ++ p .bytes) ps in
@@ -56,8 +56,8 @@ entries-bytes pre (p ∷ ps) =
 
 -- what holds of each part holds of each entry's bytes and kind
 pub entries-all : (P : List ℕ → ℕ → Type 0) (pre : List ℕ) (ps : List Part) → All (λ (p : Part). P (p .bytes) (p .kind)) ps
-    → All (λ (e : Entry). P (bytesOf (pre ++ joined ps) e) (e .kind)) (entriesFrom (length pre) ps)
-unfolding entriesFrom flatten bytesOf
+    → All (λ (e : Entry). P (entryBytes (pre ++ joined ps) e) (e .kind)) (entriesFrom (length pre) ps)
+unfolding entriesFrom flatten entryBytes
 entries-all P pre [] h = tt
 entries-all P pre (p ∷ ps) h = (
   rw (drop-append-seam pre (p .bytes ++ joined ps), take-append-seam (p .bytes) (joined ps)) (h .0),

@@ -22,8 +22,8 @@ Covers i [] n = i ≡ n
 Covers i (e ∷ es) n = (e .place ≡ i) × ((0 < e .size) × Covers (i + e .size) es n)
 
 -- the bytes of an entry in the list of s
-unfoldable pub bytesOf : List ℕ → Entry → List ℕ
-bytesOf s e = take (e .size) (drop (e .place) s)
+unfoldable pub entryBytes : List ℕ → Entry → List ℕ
+entryBytes s e = take (e .size) (drop (e .place) s)
 
 -- bytes "read as one": taken as a body they are read strictly, with one group
 abbrev pub ReadsAsOne : List ℕ → Type 0

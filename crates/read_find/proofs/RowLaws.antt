@@ -10,7 +10,7 @@ use borrow.Author.Tests.{le-leb, lt-leb, leb-false}
 use Rattle.layout.specs.Answers.{Answer, refused, granted, afterRun}
 use Rattle.layout.specs.Group.{ctabPlace, ctabOf}
 use Rattle.layout.specs.Body.{bodyRun}
-use Rattle.layout.specs.Asked.{Row, standing, ofGroup, rowOf, rowIn, ofChannel, ofRecord, channelFound}
+use Rattle.layout.specs.Asked.{Whereabouts, standing, ofGroup, rowOf, rowIn, ofChannel, ofRecord, channelFound}
 use Rattle.layout.specs.declared.turn.Run.{Run}
 use Rattle.layout.specs.declared.turn.Run.the-variants.{Stopped, Ended}
 use Rattle.layout.specs.declared.answer.Standing.{Standing}
@@ -49,19 +49,19 @@ module _ (s : List ℕ) (g channel : ℕ) where
 -- ---- what is asked of the record
 
 -- what an answer about a record comes to, where something is asked of that record
-onRow : {A : Type 0} → (Row → Answer A) → Answer Row → Answer A
+onRow : {A : Type 0} → (Whereabouts → Answer A) → Answer Whereabouts → Answer A
 onRow ask (refused number place) = refused number place
 onRow ask (granted row) = ask row
 
 module _ (s : List ℕ) (g channel : ℕ) where
   -- the record of the channel, and whether the group has none
-  abbrev found : Row
+  abbrev found : Whereabouts
   found = rowOf (standing s g) (rowIn s (standing s g) channel)
 
   abbrev lacks : Bool
   lacks = leb (standing s g .records) (rowIn s (standing s g) channel)
 
-  module _ {A : Type 0} (ask : Row → Answer A) where
+  module _ {A : Type 0} (ask : Whereabouts → Answer A) where
     of-row : ofRecord s g channel ask ≡ onRow ask (channelFound s g channel)
     unfolding channelFound ofGroup ofChannel afterRun onRow
     of-row = go (bodyRun s)
@@ -79,7 +79,7 @@ module _ (s : List ℕ) (g channel : ℕ) where
     unfolding sought onRow
     record-refused a b h = of-row ∙ go (channelFound s g channel) h
       where
-        go : (x : Answer Row) → sought x ≡ No a b → onRow ask x ≡ refused a b
+        go : (x : Answer Whereabouts) → sought x ≡ No a b → onRow ask x ≡ refused a b
         go (refused c d) q = let y : c ≡ a = cc in let z : d ≡ b = cc in rw (y, z)
         go (granted r) q = absurd (let z : _≡_ {A = ℕ} 0 1 = cc in omega arith)
 
@@ -87,7 +87,7 @@ module _ (s : List ℕ) (g channel : ℕ) where
     unfolding sought onRow
     record-there i at h = of-row ∙ go (channelFound s g channel) h
       where
-        go : (x : Answer Row) → sought x ≡ At i at → onRow ask x ≡ ask (record { index = i; at = at })
+        go : (x : Answer Whereabouts) → sought x ≡ At i at → onRow ask x ≡ ask (record { index = i; at = at })
         go (refused c d) q = absurd (let z : _≡_ {A = ℕ} 0 1 = cc in omega arith)
         go (granted r) q = let y : r .index ≡ i = cc in let z : r .at ≡ at = cc in rw (← y, ← z)
 

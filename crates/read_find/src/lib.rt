@@ -71,7 +71,7 @@ fn group_numbered<'a>(
 }
 
 // A group by its number.
-pub fn find_group(s: &[u8], group: usize) -> Search
+pub fn locate_group(s: &[u8], group: usize) -> Search
     ensures { λ r. ⌜ r ≡ groupLocated (now (s .entry)) group ⌝ }
 {
     let read = read_groups(s);
@@ -83,7 +83,7 @@ pub fn find_group(s: &[u8], group: usize) -> Search
 }
 
 // A group by the name of a part.
-pub fn find_part(s: &[u8], name: &[u8]) -> Search
+pub fn locate_part(s: &[u8], name: &[u8]) -> Search
     ensures { λ r. ⌜ r ≡ partLocated (now (s .entry)) (now (name .entry)) ⌝ }
 {
     let read = read_groups(s);

@@ -1,6 +1,6 @@
 // What is looked up in a file or a body (document 01, "Numbers of refusal": after the body): a section's body, the groups of a body, a part, a channel, a group's text.
 ghost use mathlib.Core.Path.{_≡_};
-ghost use Rattle.layout.specs.Answers.{nowhere as nothing};
+ghost use Rattle.layout.specs.Answers.{nowhere};
 ghost use Rattle.layout.specs.Promises.{SectionShown, BodyRead, GroupFound, PartFound, ChannelFound, TextShown};
 use crate::Search;
 use crate::row::Sought;
@@ -55,8 +55,8 @@ pub fn read_body(s: &[u8]) -> Counted
 }
 
 // A standing with every field 0.
-fn nowhere() -> Standing
-    ensures { λ r. ⌜ r ≡ nothing ⌝ }
+fn no_standing() -> Standing
+    ensures { λ r. ⌜ r ≡ nowhere ⌝ }
 {
     Standing {
         edition: Edition::First,
@@ -75,16 +75,16 @@ fn nowhere() -> Standing
 pub fn find_group(s: &[u8], group: usize) -> Grouped
     ensures { λ r. ⌜ GroupFound (now (s .entry)) group r ⌝ }
 {
-    match crate::find_group(s, group) {
+    match crate::locate_group(s, group) {
         Search::Refused(number, place) => Grouped {
             number: number,
             place: place,
-            group: nowhere(),
+            group: no_standing(),
         },
         Search::Missing => Grouped {
             number: BAD_NUMBER,
             place: 0,
-            group: nowhere(),
+            group: no_standing(),
         },
         Search::Found(_, standing) => Grouped {
             number: 0,
@@ -98,7 +98,7 @@ pub fn find_group(s: &[u8], group: usize) -> Grouped
 pub fn find_part(s: &[u8], name: &[u8]) -> Named
     ensures { λ r. ⌜ PartFound (now (s .entry)) (now (name .entry)) r ⌝ }
 {
-    match crate::find_part(s, name) {
+    match crate::locate_part(s, name) {
         Search::Refused(number, place) => Named {
             number: number,
             place: place,
@@ -141,7 +141,7 @@ pub fn find_channel(s: &[u8], group: usize, channel: SourceChannel) -> Channelle
 pub fn group_text<'a>(s: &'a [u8], group: usize) -> &'a [u8]
     ensures { λ r. ⌜ TextShown (now (s .entry)) group (now r) ⌝ }
 {
-    match crate::find_group(s, group) {
+    match crate::locate_group(s, group) {
         Search::Refused(_, _) => &s[0..0],
         Search::Missing => &s[0..0],
         Search::Found(_, x) => {

@@ -6,7 +6,7 @@ ghost use Rattle.layout.specs.Group.{ctabPlace, ctabOf};
 ghost use Rattle.layout.specs.Asked.{channelFound};
 ghost use Rattle.read_find.specs.Row.{sought};
 use crate::Search;
-use crate::find_group;
+use crate::locate_group;
 use layout::edition::Edition;
 use layout::record::SourceChannel;
 use layout::refusal::BAD_NUMBER;
@@ -40,7 +40,7 @@ fn find_row(edition: Edition, s: &[u8], p: usize, n: usize, channel: u8) -> usiz
 pub fn find_record(s: &[u8], group: usize, channel: SourceChannel) -> Sought
     ensures { λ r. ⌜ r ≡ sought (channelFound (now (s .entry)) group (channel .0)) ⌝ }
 {
-    match find_group(s, group) {
+    match locate_group(s, group) {
         Search::Refused(number, place) => Sought::Refused(number, place),
         Search::Missing => Sought::Refused(BAD_NUMBER, 0),
         Search::Found(_, x) => {

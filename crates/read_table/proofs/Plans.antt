@@ -24,7 +24,7 @@ use Rattle.read_find.specs.declared.Search.the-variants.{Refused, Missing}
 use Rattle.read_find.specs.Find.{groupLocated}
 use Rattle.read_find.proofs.AskLaws.{There, there-within, of-refused, of-missing, of-found}
 use Rattle.read_table.specs.declared.Reading.{Reading}
-use Rattle.read_table.specs.Reading.{noReading, toldOf, planned, ReadingPlanned}
+use Rattle.read_table.specs.Reading.{noReading, toldOf, plannedRecord, ReadingPlanned}
 
 -- ---- a group that was found
 
@@ -89,7 +89,7 @@ pub told-answer : (s : List ℕ) (g room : ℕ) (p : Reading) (r : Counted) → 
 unfolding countedAll
 told-answer s g room p r h e =
     let a = recordsRead s g room in
-    let n : p .count ≡ length (valueOr [] a) = sym (ap length (h .records) ∙ rows-length (planned s p) 0 (p .count)) in
+    let n : p .count ≡ length (valueOr [] a) = sym (ap length (h .records) ∙ rows-length (plannedRecord s p) 0 (p .count)) in
     e
     ∙ (ap (λ (m : ℕ). record { number = m; place = p .place; count = p .count }) (h .number)
     ∙ (ap (λ (m : ℕ). record { number = numberOf a; place = m; count = p .count }) (h .place) ∙ ap (λ (m : ℕ). record { number = numberOf a; place = placeOf a; count = m }) n))

@@ -14,7 +14,7 @@ use Rattle.layout.specs.Asked.{recordsRead}
 use Rattle.layout.specs.Promises.{RecordsRead}
 use Rattle.layout.proofs.Lists.{rows-length, rows-last}
 use Rattle.read_table.specs.declared.Reading.{Reading}
-use Rattle.read_table.specs.Reading.{toldOf, planned, ReadingPlanned}
+use Rattle.read_table.specs.Reading.{toldOf, plannedRecord, ReadingPlanned}
 use Rattle.read_table.proofs.Plans.{told-answer}
 
 -- ---- n stores into ys, of f 0, f 1, ..
@@ -51,6 +51,6 @@ lent f n ys (granted xs) e =
     let z : length xs ≡ n = ap length e ∙ rows-length f 0 n in
     rw (z, e)
 
-pub records-read : (s : List ℕ) (g : ℕ) (ys : List Record) (p : Reading) (r : Counted) → ReadingPlanned s g (length ys) p → r ≡ toldOf p → RecordsRead s g ys r (filled (planned s p) (p .count) ys)
+pub records-read : (s : List ℕ) (g : ℕ) (ys : List Record) (p : Reading) (r : Counted) → ReadingPlanned s g (length ys) p → r ≡ toldOf p → RecordsRead s g ys r (filled (plannedRecord s p) (p .count) ys)
 records-read s g ys p r h e =
-    record { answer = told-answer s g (length ys) p r h e; table = lent (planned s p) (p .count) ys (recordsRead s g (length ys)) (h .records) }
+    record { answer = told-answer s g (length ys) p r h e; table = lent (plannedRecord s p) (p .count) ys (recordsRead s g (length ys)) (h .records) }

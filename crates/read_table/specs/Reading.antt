@@ -21,14 +21,14 @@ abbrev pub toldOf : Reading → Counted
 toldOf r = record { number = r .number; place = r .place; count = r .count }
 
 -- the records that a plan names
-abbrev pub planned : List ℕ → Reading → ℕ → Record
-planned s r i = recordAt First s (r .ctabs) (r .cntts) (r .seconds) i
+abbrev pub plannedRecord : List ℕ → Reading → ℕ → Record
+plannedRecord s r i = recordAt First s (r .ctabs) (r .cntts) (r .seconds) i
 
 -- refused, or accepted with so many records; each is read off the body where it stands; on refusal there is none
 pub record ReadingPlanned (s : List ℕ) (group room : ℕ) (r : Reading) : Type 0 where
   pub number : r .number ≡ numberOf (recordsRead s group room)
   pub place : r .place ≡ placeOf (recordsRead s group room)
-  pub records : valueOr [] (recordsRead s group room) ≡ rows (planned s r) 0 (r .count)
+  pub records : valueOr [] (recordsRead s group room) ≡ rows (plannedRecord s r) 0 (r .count)
   pub fits : r .count ≤ room
   pub ctabs : ctabPlace First (r .ctabs) (r .count) ≤ length s
   pub cntts : r .cntts + 10 * r .seconds ≤ length s

@@ -45,7 +45,7 @@ fn no_records(number: u8, place: usize) -> Reading
 pub fn plan_records(s: &[u8], group: usize, room: usize) -> Reading
     ensures { λ r. ⌜ ReadingPlanned (now (s .entry)) group room r ⌝ }
 {
-    match read_find::find_group(s, group) {
+    match read_find::locate_group(s, group) {
         Search::Refused(number, place) => no_records(number, place),
         Search::Missing => no_records(BAD_NUMBER, 0),
         Search::Found(_, x) => {

@@ -5,6 +5,8 @@ ghost use Prim.Native.Nat.{_+_, _≤_};
 ghost use lib.ListN.{length, drop};
 ghost use Rattle.layout.specs.Bytes.{CSEG, Sdec, Ctab, four, chunk};
 ghost use Rattle.layout.specs.declared.record.SecondTable.the-variants.{Value};
+ghost use Rattle.layout.specs.declared.edition.Edition.the-variants.{First};
+ghost use Rattle.layout.specs.Editions.{size, held};
 ghost use Rattle.layout.specs.Write.{cnttBytes};
 use crate::put::put_bytes;
 use crate::put::put_head;
@@ -36,8 +38,8 @@ pub fn put_front(out: &mut [u8], text: &[u8], size: usize)
 
 // A Ctab: a record behind its header, from its bytes 0-25.
 pub fn put_ctab(out: &mut [u8], b: &[u8])
-    requires { ⌜ (length (now b) ≡ 26) × (35 ≤ length (now out)) ⌝ }
-    ensures { λ _. ⌜ now (out .exit) ≡ chunk Ctab (now (b .entry) ++ (0 ∷ [])) ++ drop 35 (now (out .entry)) ⌝ }
+    requires { ⌜ (length (now b) ≡ held First) × (8 + size First ≤ length (now out)) ⌝ }
+    ensures { λ _. ⌜ now (out .exit) ≡ chunk Ctab (now (b .entry) ++ (0 ∷ [])) ++ drop (8 + size First) (now (out .entry)) ⌝ }
 {
     put_head(out, CTAB, RECORD);
     put_held(&mut out[8..], b);

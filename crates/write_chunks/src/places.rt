@@ -5,6 +5,9 @@ ghost use Prim.Native.Nat.{_+_, _*_, _≤_};
 ghost use lib.ListN.{length};
 ghost use Rattle.layout.specs.Bytes.{Ctab, chunk};
 ghost use Rattle.layout.specs.Edit.{replaced};
+ghost use Rattle.layout.specs.Editions.{size, held};
+ghost use Rattle.layout.specs.Group.{ctabPlace};
+ghost use Rattle.layout.specs.declared.edition.Edition.the-variants.{First};
 ghost use Rattle.layout.specs.Write.{ctabBytes};
 ghost use Rattle.write_plan.specs.Chunks.{cnttsDown};
 use crate::chunks::put_cntt;
@@ -17,8 +20,8 @@ use read_record::held::bytes_of;
 
 // Ctab number i of those from `at` on, from the record's bytes 0-25.
 pub fn put_ctab_at(out: &mut [u8], at: usize, i: usize, b: &[u8])
-    requires { ⌜ (length (now b) ≡ 26) × (at + 35 * i + 35 ≤ length (now out)) ⌝ }
-    ensures { λ _. ⌜ now (out .exit) ≡ replaced (now (out .entry)) (at + 35 * i) (chunk Ctab (now (b .entry) ++ (0 ∷ []))) ⌝ }
+    requires { ⌜ (length (now b) ≡ held First) × (ctabPlace First at i + (8 + size First) ≤ length (now out)) ⌝ }
+    ensures { λ _. ⌜ now (out .exit) ≡ replaced (now (out .entry)) (ctabPlace First at i) (chunk Ctab (now (b .entry) ++ (0 ∷ []))) ⌝ }
 {
     let to = at + CTAB_STRIDE * i;
     put_ctab(&mut out[to..], b);
@@ -26,8 +29,8 @@ pub fn put_ctab_at(out: &mut [u8], at: usize, i: usize, b: &[u8])
 
 // .. and of a record in memory.
 pub fn put_record(out: &mut [u8], at: usize, i: usize, r: Record)
-    requires { ⌜ at + 35 * i + 35 ≤ length (now out) ⌝ }
-    ensures { λ _. ⌜ now (out .exit) ≡ replaced (now (out .entry)) (at + 35 * i) (ctabBytes r) ⌝ }
+    requires { ⌜ ctabPlace First at i + (8 + size First) ≤ length (now out) ⌝ }
+    ensures { λ _. ⌜ now (out .exit) ≡ replaced (now (out .entry)) (ctabPlace First at i) (ctabBytes r) ⌝ }
 {
     let b = bytes_of(r);
     put_ctab_at(out, at, i, &b);

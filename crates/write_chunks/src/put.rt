@@ -4,6 +4,8 @@ ghost use mathlib.Core.List.{_∷_, _++_};
 ghost use Prim.Native.Nat.{_≤_};
 ghost use lib.ListN.{length, drop};
 ghost use Rattle.layout.specs.Bytes.{four};
+ghost use Rattle.layout.specs.declared.edition.Edition.the-variants.{First};
+ghost use Rattle.layout.specs.Editions.{size, held};
 
 // These bytes.
 pub fn put_bytes(out: &mut [u8], b: &[u8])
@@ -34,8 +36,8 @@ pub fn put_head(out: &mut [u8], tag: usize, size: usize)
 
 // The 27 bytes of a record from its bytes 0-25; byte 26 is always written as 00.
 pub fn put_held(out: &mut [u8], b: &[u8])
-    requires { ⌜ (length (now b) ≡ 26) × (27 ≤ length (now out)) ⌝ }
-    ensures { λ _. ⌜ now (out .exit) ≡ now (b .entry) ++ (0 ∷ drop 27 (now (out .entry))) ⌝ }
+    requires { ⌜ (length (now b) ≡ held First) × (size First ≤ length (now out)) ⌝ }
+    ensures { λ _. ⌜ now (out .exit) ≡ now (b .entry) ++ (0 ∷ drop (size First) (now (out .entry))) ⌝ }
 {
     put_bytes(out, b);
     out[26] = 0;

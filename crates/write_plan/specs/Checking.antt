@@ -12,6 +12,7 @@ use Rattle.layout.specs.declared.record.SecondTable.the-variants.{Absent, Value
 use Rattle.layout.specs.Bytes.{CSEG, Sdec, four, chunk}
 use Rattle.layout.specs.Refusals.{accepted, badText, outOfRange, channelAgain, noRoom, badNumber}
 use Rattle.layout.specs.Plays.{bit}
+use Rattle.layout.specs.declared.edition.Edition.the-variants.{First}
 use Rattle.layout.specs.Editions.{size, held}
 use Rattle.layout.specs.Records.{blank, channelOf, editionOf, firstBad}
 use Rattle.layout.specs.Sdec.{soundText}
@@ -39,8 +40,8 @@ begun text lent count = record { checked = firstChecked text lent count; cntts =
 
 -- the bytes of a record's chunks: its Ctab, and its Cntt where it has one
 unfoldable pub chunksSize : SecondTable → ℕ
-chunksSize Absent = 35
-chunksSize (Value v) = 45
+chunksSize Absent = 8 + size First
+chunksSize (Value v) = 8 + size First + 10
 
 -- how many Cntts a record has
 unfoldable pub cnttCount : SecondTable → ℕ

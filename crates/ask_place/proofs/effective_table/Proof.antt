@@ -6,14 +6,8 @@ use borrow.Author.Needs.{needs}
 use Rattle.ask_place.proofs.effective_table.Statement.{statement}
 use Rattle.ask_place.proofs.effective_table.Tie as tie
 
-enum-known-second : tie.Need-enum-known-second
-enum-known-second c = search needs
-
 enum-told : tie.Need-enum-told
 enum-told c = search needs
-
-array-read-result : tie.Need-array-read-result
-array-read-result c = search needs
 
 returns : tie.Need-returns
 unfolding effective
@@ -25,4 +19,4 @@ returns-2 c = sym (ap (λ (s : SecondTable). effective s (c .before .before .arg
 
 pub effective-table-spec : {M : Type 1} → statement M
 effective-table-spec =
-    tie.close (tie.spec enum-known-second enum-told array-read-result returns returns-2)
+    tie.close (tie.spec (λ c. search needs) enum-told (λ c. search needs) returns returns-2)

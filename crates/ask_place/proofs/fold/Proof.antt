@@ -59,12 +59,6 @@ raised-near c = omega (arith, remainder-small (past-low c))
 lowered-near : (c : tie.Start) → mag (pos (c .args .high) -ℤ pos (remainder (past-high c))) < 65536
 lowered-near c = omega (arith, remainder-small (past-high c), mag-sub (pos (c .args .high)) (pos (remainder (past-high c))))
 
-cast-l : tie.Need-cast-l
-cast-l c = search needs
-
-cast-h : tie.Need-cast-h
-cast-h c = search needs
-
 sub-octave-remainder : tie.Need-sub-octave-remainder
 sub-octave-remainder c = let s = c .before in rw (v-reads s, l-reads s) (fits (past-low s) (omega (arith, low-near s)))
 
@@ -109,8 +103,8 @@ pub fold-spec : {M : Type 1} → statement M
 fold-spec =
     tie.close
     (tie.spec
-    cast-l
-    cast-h
+    (λ c. search needs)
+    (λ c. search needs)
     sub-octave-remainder
     octave-remainder-requires
     add-result

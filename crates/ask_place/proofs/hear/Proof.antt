@@ -13,9 +13,6 @@ use borrow.Author.Needs.{needs}
 use Rattle.ask_place.proofs.hear.Statement.{statement}
 use Rattle.ask_place.proofs.hear.Tie as tie
 
-fold-requires : tie.Need-fold-requires
-fold-requires c κs = search needs
-
 module _ (c : tie.After-fold) where
   is-folded : c .fold .result ≡ folded (c .before .args .value) (c .before .args .low) (c .before .args .high)
   is-folded = rw (reads-back (c .before .args .value) (omega arith)) at (c .fold .ensures)
@@ -31,23 +28,11 @@ module _ (c : tie.After-fold) where
   h-reads : toZ w32 (c .before .args .high) ≡ pos (c .before .args .high)
   h-reads = u8-reads (c .before .args .high) (omega arith)
 
-cast-if1 : tie.Need-cast-if1
-cast-if1 c = search needs
-
-silence-requires : tie.Need-silence-requires
-silence-requires c κs = search needs
-
 returns : tie.Need-returns
 returns c =
     let f = c .before .before in
     let a = f .before .args in
     c .silence .ensures ∙ answers (ap granted (heard-low (a .value) (a .low) (a .high) (f .fold .result) (is-folded f) (rw (n-reads f, l-reads f) at (c .before .if1 .taken))))
-
-cast-if2 : tie.Need-cast-if2
-cast-if2 c = search needs
-
-silence-requires-2 : tie.Need-silence-requires-2
-silence-requires-2 c κs = search needs
 
 returns-2 : tie.Need-returns-2
 returns-2 c =
@@ -77,12 +62,12 @@ pub hear-spec : {M : Type 1} → statement M
 hear-spec =
     tie.close
     (tie.spec
-    fold-requires
-    cast-if1
-    silence-requires
+    (λ c κs. search needs)
+    (λ c. search needs)
+    (λ c κs. search needs)
     returns
-    cast-if2
-    silence-requires-2
+    (λ c. search needs)
+    (λ c κs. search needs)
     returns-2
     cast-note
     returns-3)

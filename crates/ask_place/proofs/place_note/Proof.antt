@@ -18,23 +18,11 @@ use borrow.Author.Needs.{needs}
 use Rattle.ask_place.proofs.place_note.Statement.{statement}
 use Rattle.ask_place.proofs.place_note.Tie as tie
 
-refusal-requires : tie.Need-refusal-requires
-refusal-requires c κs = search needs
-
 returns : tie.Need-returns
 returns c = c .refusal .ensures ∙ answers (placed-root _ _ _ (omega arith))
 
-refusal-requires-2 : tie.Need-refusal-requires-2
-refusal-requires-2 c κs = search needs
-
 returns-2 : tie.Need-returns-2
 returns-2 c = c .refusal2 .ensures ∙ answers (placed-note _ _ _ (omega arith) (omega arith))
-
-first-bad-requires : tie.Need-first-bad-requires
-first-bad-requires c κs = search needs
-
-refusal-requires-3 : tie.Need-refusal-requires-3
-refusal-requires-3 c κs = search needs
 
 returns-3 : tie.Need-returns-3
 returns-3 c =
@@ -47,9 +35,6 @@ is-bypass-requires c κs =
     let b = c .before in
     omega (arith, in-its-range (b .before .before .before .args .r) 21 (rw (← b .first-bad .ensures) (c .if3 .left)) (omega arith))
 
-cast-hear : tie.Need-cast-hear
-cast-hear c = search needs
-
 hear-requires : tie.Need-hear-requires
 hear-requires c κs = rw (u8-reads (c .before .before .before .before .before .before .args .note) (omega arith)) (omega arith)
 
@@ -60,9 +45,6 @@ returns-4 c =
     let a = b .before .before .before .args in
     rw (u8-reads (a .note) (omega arith)) at (c .hear .ensures)
     ∙ answers (placed-bypass (a .r) (a .root) (a .note) (omega arith) (omega arith) _ (b .first-bad .ensures) (p .before .if3 .left) (sym (p .is-bypass .ensures) ∙ c .before .if4 .taken))
-
-refusal-requires-4 : tie.Need-refusal-requires-4
-refusal-requires-4 c κs = search needs
 
 returns-5 : tie.Need-returns-5
 returns-5 c =
@@ -94,9 +76,6 @@ module _ (c : tie.After-shift-to) where
   value-reads : toZ w32 (ofZ w32 (pos note +ℤ c .shift-to .result)) ≡ pos note +ℤ c .shift-to .result
   value-reads = reads-back (pos note +ℤ c .shift-to .result) (omega (arith, near))
 
-cast-hear-2 : tie.Need-cast-hear-2
-cast-hear-2 c = search needs
-
 add-hear : tie.Need-add-hear
 add-hear c = rw (note-reads c, shift-reads c) (fits (pos (note c) +ℤ c .shift-to .result) (omega (arith, near c)))
 
@@ -118,21 +97,21 @@ pub place-note-spec : {M : Type 1} → statement M
 place-note-spec =
     tie.close
     (tie.spec
-    refusal-requires
+    (λ c κs. search needs)
     returns
-    refusal-requires-2
+    (λ c κs. search needs)
     returns-2
-    first-bad-requires
-    refusal-requires-3
+    (λ c κs. search needs)
+    (λ c κs. search needs)
     returns-3
     is-bypass-requires
-    cast-hear
+    (λ c. search needs)
     hear-requires
     returns-4
-    refusal-requires-4
+    (λ c κs. search needs)
     returns-5
     shift-to-requires
-    cast-hear-2
+    (λ c. search needs)
     add-hear
     hear-requires-2
     returns-6)

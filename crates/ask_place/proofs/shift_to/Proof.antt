@@ -26,12 +26,6 @@ module _ (c : tie.Start) where
   apart-reads : toZ w32 (ofZ w32 (toZ w32 (c .args .root) -ℤ toZ w32 (c .args .r .root))) ≡ apart
   apart-reads = rw (u8-reads (c .args .root) (omega arith), u8-reads (c .args .r .root) (omega arith)) (reads-back apart (omega (arith, near)))
 
-cast-shift : tie.Need-cast-shift
-cast-shift c = search needs
-
-cast-shift-2 : tie.Need-cast-shift-2
-cast-shift-2 c = search needs
-
 sub-shift : tie.Need-sub-shift
 sub-shift c =
     let s = c .before in
@@ -52,4 +46,4 @@ returns-2 c =
     rw (apart-reads s) (sym (shift-plain (s .args .r) (s .args .root) (search needs) (c .if1 .left)), omega (arith, near s))
 
 pub shift-to-spec : {M : Type 1} → statement M
-shift-to-spec = tie.close (tie.spec cast-shift cast-shift-2 sub-shift sub-result returns returns-2)
+shift-to-spec = tie.close (tie.spec (λ c. search needs) (λ c. search needs) sub-shift sub-result returns returns-2)

@@ -30,17 +30,11 @@ add-at c =
     let a = l .before .before .before in
     omega (arith, c .ctab-place .ensures, row-fits (a .args .edition) (a .args .p) (l .before .loop .i) (a .args .n) (length (a .args .s .now)) (l .loop-test .taken) (a .pre .0))
 
-add-i : tie.Need-add-i Inv-loop μ-loop
-add-i c = search needs
-
 is-playing-requires : tie.Need-is-playing-requires Inv-loop μ-loop
 is-playing-requires c κs =
     let l = c .before in
     let a = l .before .before .before in
     (omega (arith, c .ctab-place .ensures, row-fits (a .args .edition) (a .args .p) (l .before .loop .i) (a .args .n) (length (a .args .s .now)) (l .loop-test .taken) (a .pre .0)), a .pre .1 .1)
-
-loop-less : tie.Need-loop-less Inv-loop μ-loop
-loop-less c = search needs
 
 loop-again : tie.Need-loop-again Inv-loop μ-loop
 loop-again c =
@@ -64,9 +58,6 @@ add-count c =
     let room = filled-room _ _ _ _ _ _ _ _ (l .inv .1) (omega arith) in
     omega (arith, room)
 
-loop-less-2 : tie.Need-loop-less-2 Inv-loop μ-loop
-loop-less-2 c = search needs
-
 loop-again-2 : tie.Need-loop-again-2 Inv-loop μ-loop
 loop-again-2 c =
     let p = c .before .before .before in
@@ -85,13 +76,13 @@ players-spec =
     loop-holds
     ctab-place-requires
     add-at
-    add-i
+    (λ c. search needs)
     is-playing-requires
-    loop-less
+    (λ c. search needs)
     loop-again
     shared-slice-read-t16
     array-set-from-channels
     add-count
-    loop-less-2
+    (λ c. search needs)
     loop-again-2
     returns)

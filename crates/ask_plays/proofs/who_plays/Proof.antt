@@ -8,69 +8,48 @@ use borrow.Author.Needs.{needs}
 use Rattle.ask_plays.proofs.who_plays.Statement.{statement}
 use Rattle.ask_plays.proofs.who_plays.Tie as tie
 
-find-part-requires : tie.Need-find-part-requires
-find-part-requires c κs = search needs
-
-enum-known-search : tie.Need-enum-known-search
-enum-known-search c = search needs
-
-nobody-requires : tie.Need-nobody-requires
-nobody-requires c κs = search needs
-
 returns : tie.Need-returns
 returns c =
-    c .nobody .ensures ∙ nobody-plays _ _ _ _ _ _ (plays-refused _ _ _ _ _ _ (sym (c .before .before .before .before .find-part .ensures) ∙ c .before .before .search .given .1))
-
-nobody-requires-2 : tie.Need-nobody-requires-2
-nobody-requires-2 c κs = search needs
+    c .nobody .ensures ∙ nobody-plays _ _ _ _ _ _ (plays-refused _ _ _ _ _ _ (sym (c .before .before .before .before .locate-part .ensures) ∙ c .before .before .search .given .1))
 
 returns-2 : tie.Need-returns-2
 returns-2 c =
-    let r = read-through _ _ _ (sym (c .before .before .before .find-part .ensures)) (c .before .before .match .keys2) in
+    let r = read-through _ _ _ (sym (c .before .before .before .locate-part .ensures)) (c .before .before .match .keys2) in
     c .nobody2 .ensures ∙ nobody-plays _ _ _ _ _ _ (no-such-root _ _ _ _ (r .0) (r .1) (c .before .if1 .taken))
-
-nobody-requires-3 : tie.Need-nobody-requires-3
-nobody-requires-3 c κs = search needs
 
 returns-3 : tie.Need-returns-3
 returns-3 c =
-    let r = read-through _ _ _ (sym (c .before .before .before .before .find-part .ensures)) (c .before .before .before .match .keys2) in
+    let r = read-through _ _ _ (sym (c .before .before .before .before .locate-part .ensures)) (c .before .before .before .match .keys2) in
     c .nobody3 .ensures ∙ nobody-plays _ _ _ _ _ _ (no-such-type _ _ _ _ (r .0) (r .1) (omega arith) (c .before .if2 .taken))
-
-enum-known-search-2 : tie.Need-enum-known-search-2
-enum-known-search-2 c = search needs
-
-nobody-requires-4 : tie.Need-nobody-requires-4
-nobody-requires-4 c κs = search needs
 
 returns-4 : tie.Need-returns-4
 returns-4 c =
     let e = not-found _ (c .before .before .before .before .match .keys2) (c .before .match2 .keys2) in
-    c .nobody4 .ensures ∙ nobody-plays _ _ _ _ _ _ (no-such-part _ _ _ _ (sym (c .before .before .before .before .before .find-part .ensures) ∙ e) (omega arith) (omega arith))
+    c .nobody4 .ensures ∙ nobody-plays _ _ _ _ _ _ (no-such-part _ _ _ _ (sym (c .before .before .before .before .before .locate-part .ensures) ∙ e) (omega arith) (omega arith))
 
 players-requires : tie.Need-players-requires
 players-requires c κs =
-    let p = part-there-is _ _ _ _ (sym (c .before .before .before .before .before .before .find-part .ensures) ∙ c .before .search2 .given .1) in
+    let p = part-there-is _ _ _ _ (sym (c .before .before .before .before .before .before .locate-part .ensures) ∙ c .before .search2 .given .1) in
     (there-within _ _ _ (p .there) .ctabs, (there-sixteen _ _ _ (p .there), (omega arith, omega arith)))
 
 returns-5 : tie.Need-returns-5
 returns-5 c =
-    c .players .ensures ∙ part-plays _ _ _ _ _ _ (sym (c .before .before .before .before .before .before .before .find-part .ensures) ∙ c .before .before .search2 .given .1) (omega arith) (omega arith)
+    c .players .ensures ∙ part-plays _ _ _ _ _ _ (sym (c .before .before .before .before .before .before .before .locate-part .ensures) ∙ c .before .before .search2 .given .1) (omega arith) (omega arith)
 
 pub who-plays-spec : {M : Type 1} → statement M
 who-plays-spec =
     tie.close
     (tie.spec
-    find-part-requires
-    enum-known-search
-    nobody-requires
+    (λ c κs. search needs)
+    (λ c. search needs)
+    (λ c κs. search needs)
     returns
-    nobody-requires-2
+    (λ c κs. search needs)
     returns-2
-    nobody-requires-3
+    (λ c κs. search needs)
     returns-3
-    enum-known-search-2
-    nobody-requires-4
+    (λ c. search needs)
+    (λ c κs. search needs)
     returns-4
     players-requires
     returns-5)

@@ -7,15 +7,6 @@ use borrow.Author.Needs.{needs}
 use Rattle.ask_voice.proofs.find_voice.Statement.{statement}
 use Rattle.ask_voice.proofs.find_voice.Tie as tie
 
-find-record-requires : tie.Need-find-record-requires
-find-record-requires c κs = search needs
-
-enum-known-number : tie.Need-enum-known-number
-enum-known-number c = search needs
-
-enum-known-at : tie.Need-enum-known-at
-enum-known-at c = search needs
-
 shown-length-requires : tie.Need-shown-length-requires
 shown-length-requires c κs =
     let a = c .before in
@@ -39,9 +30,9 @@ pub find-voice-spec : {M : Type 1} → statement M
 find-voice-spec =
     tie.close
     (tie.spec
-    find-record-requires
-    enum-known-number
-    enum-known-at
+    (λ c κs. search needs)
+    (λ c. search needs)
+    (λ c. search needs)
     shown-length-requires
     add-t10
     returns

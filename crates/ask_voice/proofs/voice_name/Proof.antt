@@ -5,17 +5,8 @@ use borrow.Author.Needs.{needs}
 use Rattle.ask_voice.proofs.voice_name.Statement.{statement}
 use Rattle.ask_voice.proofs.voice_name.Tie as tie
 
-find-voice-requires : tie.Need-find-voice-requires
-find-voice-requires c κs = search needs
-
 add-end : tie.Need-add-end
 add-end c = omega (arith, voice-within _ _ _ _ (c .before .find-voice .ensures))
-
-sub-result : tie.Need-sub-result
-sub-result c = search needs
-
-part-result-start : tie.Need-part-result-start
-part-result-start c = search needs
 
 part-result-end : tie.Need-part-result-end
 part-result-end c = voice-within _ _ _ _ (c .before .find-voice .ensures)
@@ -26,4 +17,4 @@ returns c = voice-shown _ _ _ _ (c .before .before .find-voice .ensures)
 pub voice-name-spec : {M : Type 1} → statement M
 voice-name-spec =
     tie.close
-    (tie.spec find-voice-requires add-end sub-result part-result-start part-result-end returns)
+    (tie.spec (λ c κs. search needs) add-end (λ c. search needs) (λ c. search needs) part-result-end returns)

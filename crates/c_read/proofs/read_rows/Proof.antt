@@ -5,7 +5,7 @@ use mathlib.Core.Path.{_≡_, refl}
 use lib.ListN.{length}
 use borrow.Author.Needs.{needs}
 use Rattle.layout.specs.Lists.{rows}
-use Rattle.read_table.specs.Reading.{planned}
+use Rattle.read_table.specs.Reading.{plannedRecord}
 use Rattle.read_table.proofs.Plans.{planned-within}
 use Rattle.c_read.proofs.Laid.{laid-none, laid-last, room-left}
 use Rattle.c_read.proofs.RowsRead.{laidFrom, from-next, from-length, count-lent, rows-read}
@@ -13,21 +13,15 @@ use Rattle.c_read.proofs.read_rows.Statement.{statement}
 use Rattle.c_read.proofs.read_rows.Tie as tie
 
 abbrev Inv-loop : tie.InvT-loop
-Inv-loop s group flat₀ plan n i₀ flat i = (i ≤ n) × ((length flat ≡ length flat₀) × (flat ≡ laidFrom (planned s plan) n i flat₀))
+Inv-loop s group flat₀ plan n i₀ flat i = (i ≤ n) × ((length flat ≡ length flat₀) × (flat ≡ laidFrom (plannedRecord s plan) n i flat₀))
 
 abbrev μ-loop : tie.MeasureT-loop
 μ-loop s group flat₀ plan n i₀ flat i = n - i
 
-row-count-requires : tie.Need-row-count-requires Inv-loop μ-loop
-row-count-requires c κs = search needs
-
-plan-records-requires : tie.Need-plan-records-requires Inv-loop μ-loop
-plan-records-requires c κs = search needs
-
 loop-holds : tie.Need-loop-holds Inv-loop μ-loop
 loop-holds c =
     let a = c .before .before .before .before .args in
-    (omega arith, (refl, laid-none (rows (planned (a .s .now) (c .plan-records .result)) 0 (c .plan-records .result .count)) (a .flat .now)))
+    (omega arith, (refl, laid-none (rows (plannedRecord (a .s .now) (c .plan-records .result)) 0 (c .plan-records .result .count)) (a .flat .now)))
 
 mul-at : tie.Need-mul-at Inv-loop μ-loop
 mul-at c =
@@ -44,12 +38,6 @@ sub-put-row c =
     let v = c .before .loop .inv .1 .0 in
     omega arith
 
-part-put-row-start : tie.Need-part-put-row-start Inv-loop μ-loop
-part-put-row-start c = search needs
-
-part-put-row-end : tie.Need-part-put-row-end Inv-loop μ-loop
-part-put-row-end c = search needs
-
 record-at-requires : tie.Need-record-at-requires Inv-loop μ-loop
 record-at-requires c κs = omega (arith, planned-within _ _ _ _ (c .before .before .before .plan-records .ensures) _ (c .before .loop-test .taken))
 
@@ -62,9 +50,6 @@ put-row-requires c κs =
     let w = count-lent (a .s .now) (a .flat .now) (a .group) _ _ (k .before .row-count .ensures) (k .plan-records .ensures) in
     room-left (l .i) (k .plan-records .result .count) (a .flat .now) (l .flat) (l .inv .1 .0) (i .loop-test .taken) w
 
-add-i : tie.Need-add-i Inv-loop μ-loop
-add-i c = search needs
-
 loop-less : tie.Need-loop-less Inv-loop μ-loop
 loop-less c = omega arith
 
@@ -75,14 +60,11 @@ loop-again c =
     let k = i .before .before in
     let a = k .before .before .before .before .args in
     let l = i .before .loop in
-    let f = planned (a .s .now) (k .plan-records .result) in
+    let f = plannedRecord (a .s .now) (k .plan-records .result) in
     let n = k .plan-records .result .count in
     let w = count-lent (a .s .now) (a .flat .now) (a .group) _ _ (k .before .row-count .ensures) (k .plan-records .ensures) in
     let q = from-next f n (l .i) (a .flat .now) (l .flat) (i .loop-test .taken) w (l .inv .1 .1) _ _ (r .record-at .ensures) (c .before .before .put-row .ensures) in
     (omega (arith, i .loop-test .taken), (from-length f n (l .i) (a .flat .now) (l .flat) (i .loop-test .taken) w (l .inv .1 .1) _ q, q))
-
-counted-requires : tie.Need-counted-requires Inv-loop μ-loop
-counted-requires c κs = search needs
 
 same-length : tie.Need-same-length Inv-loop μ-loop
 same-length c = c .before .before .loop .inv .1 .0
@@ -101,18 +83,18 @@ read-rows-spec =
     (tie.spec
     Inv-loop
     μ-loop
-    row-count-requires
-    plan-records-requires
+    (λ c κs. search needs)
+    (λ c κs. search needs)
     loop-holds
     mul-at
     sub-put-row
-    part-put-row-start
-    part-put-row-end
+    (λ c. search needs)
+    (λ c. search needs)
     record-at-requires
     put-row-requires
-    add-i
+    (λ c. search needs)
     loop-less
     loop-again
-    counted-requires
+    (λ c κs. search needs)
     same-length
     returns)

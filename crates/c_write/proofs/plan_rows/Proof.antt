@@ -12,12 +12,6 @@ Inv-loop text flat count room x₀ cntts₀ n i₀ x cntts i = Looking text flat
 abbrev μ-loop : tie.MeasureT-loop
 μ-loop text flat count room x₀ cntts₀ n i₀ x cntts i = n - i
 
-row-count-requires : tie.Need-row-count-requires Inv-loop μ-loop
-row-count-requires c κs = search needs
-
-begin-requires : tie.Need-begin-requires Inv-loop μ-loop
-begin-requires c κs = search needs
-
 loop-holds : tie.Need-loop-holds Inv-loop μ-loop
 loop-holds c = looking-start _ _ _ _ _ (c .before .before .before .row-count .ensures) (c .before .before .begin .ensures)
 
@@ -26,12 +20,6 @@ mul-at c = let l = looking-lent _ _ _ _ _ _ _ (c .before .loop .inv) in omega (a
 
 add-look-at-row : tie.Need-add-look-at-row Inv-loop μ-loop
 add-look-at-row c = let l = looking-lent _ _ _ _ _ _ _ (c .before .loop .inv) in omega (arith, l)
-
-sub-look-at-row : tie.Need-sub-look-at-row Inv-loop μ-loop
-sub-look-at-row c = search needs
-
-part-look-at-row-start : tie.Need-part-look-at-row-start Inv-loop μ-loop
-part-look-at-row-start c = search needs
 
 part-look-at-row-end : tie.Need-part-look-at-row-end Inv-loop μ-loop
 part-look-at-row-end c = let l = looking-lent _ _ _ _ _ _ _ (c .before .loop .inv) in omega (arith, l)
@@ -42,18 +30,9 @@ look-at-row-requires c κs =
     let l = looking-lent _ _ _ _ _ _ _ inv in
     (search needs, looking-on _ _ _ _ _ _ _ inv (omega (arith, l)))
 
-add-i : tie.Need-add-i Inv-loop μ-loop
-add-i c = search needs
-
-loop-less : tie.Need-loop-less Inv-loop μ-loop
-loop-less c = search needs
-
 loop-again : tie.Need-loop-again Inv-loop μ-loop
 loop-again c =
     looking-next _ _ _ _ _ _ _ (c .before .before .before .before .loop .inv) _ _ _ (search needs) (search row-there) (c .look-at-row .ensures)
-
-plan-for-requires : tie.Need-plan-for-requires Inv-loop μ-loop
-plan-for-requires c κs = search needs
 
 returns : tie.Need-returns Inv-loop μ-loop
 returns c = looking-end _ _ _ _ _ _ _ (c .before .before .loop .inv) _ _ (search needs) (c .plan-for .ensures)
@@ -64,17 +43,17 @@ plan-rows-spec =
     (tie.spec
     Inv-loop
     μ-loop
-    row-count-requires
-    begin-requires
+    (λ c κs. search needs)
+    (λ c κs. search needs)
     loop-holds
     mul-at
     add-look-at-row
-    sub-look-at-row
-    part-look-at-row-start
+    (λ c. search needs)
+    (λ c. search needs)
     part-look-at-row-end
     look-at-row-requires
-    add-i
-    loop-less
+    (λ c. search needs)
+    (λ c. search needs)
     loop-again
-    plan-for-requires
+    (λ c κs. search needs)
     returns)

@@ -5,17 +5,14 @@ use borrow.Author.Needs.{needs}
 use Rattle.c_write.proofs.write_rows.Statement.{statement}
 use Rattle.c_write.proofs.write_rows.Tie as tie
 
-plan-rows-requires : tie.Need-plan-rows-requires
-plan-rows-requires c κs = search needs
-
 put-frame-requires : tie.Need-put-frame-requires
 put-frame-requires c κs =
     let a = c .before .before .before .before .before .args in
     let f = fits (a .text .now) (a .flat .now) (a .out .now) (a .count) _ (c .before .plan-rows .ensures) in
     (f .start, (f .chunks, f .few))
 
-put-ctabs-requires : tie.Need-put-ctabs-requires
-put-ctabs-requires c κs =
+put-row-ctabs-requires : tie.Need-put-row-ctabs-requires
+put-row-ctabs-requires c κs =
     let s = c .before .before .before in
     let p = s .before .before in
     let a = p .before .before .before .before .args in
@@ -23,21 +20,15 @@ put-ctabs-requires c κs =
     let room = ctabs-fit (a .text .now) (a .flat .now) (a .out .now) (a .count) _ e (s .put-frame .last .0) _ (s .put-frame .ensures .0) (s .put-frame .kept .0) in
     (lent (a .text .now) (a .flat .now) (a .out .now) (a .count) _ e, omega (arith, room))
 
-measured-requires : tie.Need-measured-requires
-measured-requires c κs = search needs
-
-same-length : tie.Need-same-length
-same-length c = search needs
-
 returns : tie.Need-returns
 returns c =
     let u = c .before .before .before in
     let s = u .before .before .before .before in
     let plan = s .before .before in
     let a = plan .before .before .before .before .args in
-    all-written (a .text .now) (a .flat .now) (a .out .now) (a .count) _ (plan .plan-rows .ensures) (s .put-frame .last .0) _ (s .put-frame .ensures .0) (s .put-frame .ensures .1) _ _ (u .put-ctabs .ensures) (c .measured .ensures)
+    all-written (a .text .now) (a .flat .now) (a .out .now) (a .count) _ (plan .plan-rows .ensures) (s .put-frame .last .0) _ (s .put-frame .ensures .0) (s .put-frame .ensures .1) _ _ (u .put-row-ctabs .ensures) (c .measured .ensures)
 
 pub write-rows-spec : {M : Type 1} → statement M
 write-rows-spec =
     tie.close
-    (tie.spec plan-rows-requires put-frame-requires put-ctabs-requires measured-requires same-length returns)
+    (tie.spec (λ c κs. search needs) put-frame-requires put-row-ctabs-requires (λ c κs. search needs) (λ c. search needs) returns)

@@ -9,18 +9,6 @@ use borrow.Author.Needs.{needs}
 use Rattle.list_text.proofs.list_body.Statement.{statement}
 use Rattle.list_text.proofs.list_body.Tie as tie
 
-slice-aggregate-list-salvage : tie.Need-slice-aggregate-list-salvage
-slice-aggregate-list-salvage c = search needs
-
-list-salvage-requires : tie.Need-list-salvage-requires
-list-salvage-requires c κs = search needs
-
-put-casm-requires : tie.Need-put-casm-requires
-put-casm-requires c κs = search needs
-
-slice-aggregate-put-entries : tie.Need-slice-aggregate-put-entries
-slice-aggregate-put-entries c = search needs
-
 put-entries-requires : tie.Need-put-entries-requires
 put-entries-requires c κs =
     let named = c .before .before .before .before in
@@ -40,9 +28,6 @@ put-end-requires c κs =
     let g = all-listed (a .body .now) _ (listed .list-salvage .result) _ (length-replicate {A = ℕ} 24576 0) (start .pre .1) (listed .list-salvage .ensures) in
     omega (arith, start .pre .0, told-most _ _ _ g (start .pre .1), named .put-casm .ensures .1, named .put-casm .kept .0, told .put-entries .ensures .place, told .put-entries .kept .0)
 
-same-length : tie.Need-same-length
-same-length c = search needs
-
 returns : tie.Need-returns
 returns c =
     let ended = c .before .before in
@@ -59,11 +44,11 @@ pub list-body-spec : {M : Type 1} → statement M
 list-body-spec =
     tie.close
     (tie.spec
-    slice-aggregate-list-salvage
-    list-salvage-requires
-    put-casm-requires
-    slice-aggregate-put-entries
+    (λ c. search needs)
+    (λ c κs. search needs)
+    (λ c κs. search needs)
+    (λ c. search needs)
     put-entries-requires
     put-end-requires
-    same-length
+    (λ c. search needs)
     returns)

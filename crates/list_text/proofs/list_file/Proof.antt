@@ -7,19 +7,10 @@ use borrow.Author.Needs.{needs}
 use Rattle.list_text.proofs.list_file.Statement.{statement}
 use Rattle.list_text.proofs.list_file.Tie as tie
 
-put-refused-requires : tie.Need-put-refused-requires
-put-refused-requires c κs = search needs
-
 returns : tie.Need-returns
 returns c =
     let a = c .before .before .before .before .args in
     file-listed (a .file .now) (a .out .now) (refusedLine 3 0) _ _ (text-over (a .file .now) (c .before .if1 .taken)) (c .put-refused .ensures)
-
-find-casm-requires : tie.Need-find-casm-requires
-find-casm-requires c κs = search needs
-
-put-refused-requires-2 : tie.Need-put-refused-requires-2
-put-refused-requires-2 c κs = search needs
 
 returns-2 : tie.Need-returns-2
 returns-2 c =
@@ -40,12 +31,6 @@ add-end c =
     let f = e .before .before in
     let a = f .before .before .before .before .args in
     omega (arith, stands (a .file .now) (f .before .if1 .left) (f .find-casm .result) (f .find-casm .ensures) (e .if2 .left) .0)
-
-sub-list-body : tie.Need-sub-list-body
-sub-list-body c = search needs
-
-part-list-body-start : tie.Need-part-list-body-start
-part-list-body-start c = search needs
 
 part-list-body-end : tie.Need-part-list-body-end
 part-list-body-end c =
@@ -74,15 +59,15 @@ pub list-file-spec : {M : Type 1} → statement M
 list-file-spec =
     tie.close
     (tie.spec
-    put-refused-requires
+    (λ c κs. search needs)
     returns
-    find-casm-requires
-    put-refused-requires-2
+    (λ c κs. search needs)
+    (λ c κs. search needs)
     returns-2
     add-start
     add-end
-    sub-list-body
-    part-list-body-start
+    (λ c. search needs)
+    (λ c. search needs)
     part-list-body-end
     list-body-requires
     returns-3)

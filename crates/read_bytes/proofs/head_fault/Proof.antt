@@ -7,29 +7,11 @@ use borrow.Author.Needs.{needs}
 use Rattle.read_bytes.proofs.head_fault.Statement.{statement}
 use Rattle.read_bytes.proofs.head_fault.Tie as tie
 
-sub-if1 : tie.Need-sub-if1
-sub-if1 c = search needs
-
 returns : tie.Need-returns
 returns c = sym (fault-cut _ _ _ (omega arith))
 
-is-tagged-requires : tie.Need-is-tagged-requires
-is-tagged-requires c κs = search needs
-
 returns-2 : tie.Need-returns-2
 returns-2 c = sym (fault-tag _ _ _ (omega arith) (sym (c .before .is-tagged .ensures) ∙ not-true _ (c .if2 .taken)))
-
-sub-if3 : tie.Need-sub-if3
-sub-if3 c = search needs
-
-sub-if3-2 : tie.Need-sub-if3-2
-sub-if3-2 c = search needs
-
-add-word-at : tie.Need-add-word-at
-add-word-at c = search needs
-
-word-at-requires : tie.Need-word-at-requires
-word-at-requires c κs = search needs
 
 returns-3 : tie.Need-returns-3
 returns-3 c = sym (fault-past _ _ _ (omega arith) (sym (c .before .before .before .is-tagged .ensures) ∙ not-false _ (c .before .before .if2 .left)) (omega arith))
@@ -41,13 +23,13 @@ pub head-fault-spec : {M : Type 1} → statement M
 head-fault-spec =
     tie.close
     (tie.spec
-    sub-if1
+    (λ c. search needs)
     returns
-    is-tagged-requires
+    (λ c κs. search needs)
     returns-2
-    sub-if3
-    sub-if3-2
-    add-word-at
-    word-at-requires
+    (λ c. search needs)
+    (λ c. search needs)
+    (λ c. search needs)
+    (λ c κs. search needs)
     returns-3
     returns-4)

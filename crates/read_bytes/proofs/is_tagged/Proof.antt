@@ -5,11 +5,8 @@ use borrow.Author.Needs.{needs}
 use Rattle.read_bytes.proofs.is_tagged.Statement.{statement}
 use Rattle.read_bytes.proofs.is_tagged.Tie as tie
 
-word-at-requires : tie.Need-word-at-requires
-word-at-requires c κs = search needs
-
 returns : tie.Need-returns
 returns c = sym (tagged-is _ _ _ _ (c .word-at .ensures .1 .0) (c .word-at .ensures .1 .1) (search needs))
 
 pub is-tagged-spec : {M : Type 1} → statement M
-is-tagged-spec = tie.close (tie.spec word-at-requires returns)
+is-tagged-spec = tie.close (tie.spec (λ c κs. search needs) returns)

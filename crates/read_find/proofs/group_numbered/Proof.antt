@@ -9,24 +9,6 @@ use Rattle.read_find.proofs.group_numbered.Tie as tie
 returns : tie.Need-returns
 returns c = sym (number-missing _ _ _ (c .if1 .taken))
 
-mul-standing-at : tie.Need-mul-standing-at
-mul-standing-at c = search needs
-
-element-copy-out-standing-at : tie.Need-element-copy-out-standing-at
-element-copy-out-standing-at c = search needs
-
-mul-standing-at-2 : tie.Need-mul-standing-at-2
-mul-standing-at-2 c = search needs
-
-element-copy-out-standing-at-2 : tie.Need-element-copy-out-standing-at-2
-element-copy-out-standing-at-2 c = search needs
-
-mul-standing-at-3 : tie.Need-mul-standing-at-3
-mul-standing-at-3 c = search needs
-
-element-copy-out-standing-at-3 : tie.Need-element-copy-out-standing-at-3
-element-copy-out-standing-at-3 c = search needs
-
 standing-at-requires : tie.Need-standing-at-requires
 standing-at-requires c κs =
     let p = c .before .before .before .before .before .pre in
@@ -42,11 +24,11 @@ group-numbered-spec =
     tie.close
     (tie.spec
     returns
-    mul-standing-at
-    element-copy-out-standing-at
-    mul-standing-at-2
-    element-copy-out-standing-at-2
-    mul-standing-at-3
-    element-copy-out-standing-at-3
+    (λ c. search needs)
+    (λ c. search needs)
+    (λ c. search needs)
+    (λ c. search needs)
+    (λ c. search needs)
+    (λ c. search needs)
     standing-at-requires
     returns-2)

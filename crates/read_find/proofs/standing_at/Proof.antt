@@ -9,35 +9,17 @@ use borrow.Author.Needs.{needs}
 use Rattle.read_find.proofs.standing_at.Statement.{statement}
 use Rattle.read_find.proofs.standing_at.Tie as tie
 
-add-word-at : tie.Need-add-word-at
-add-word-at c = search needs
-
 word-at-requires : tie.Need-word-at-requires
 word-at-requires c κs =
     let a = c .before in
     let g = group-there (a .args .s .now) 0 (a .args .at) First (word (a .args .s .now) (a .args .at + 12)) (a .args .records) (a .args .seconds) (a .pre .0) (a .pre .1) in
     omega (arith, g .1 .0, g .1 .1)
 
-add-ctabs : tie.Need-add-ctabs
-add-ctabs c = search needs
-
-add-ctabs-2 : tie.Need-add-ctabs-2
-add-ctabs-2 c = search needs
-
-add-word-at-2 : tie.Need-add-word-at-2
-add-word-at-2 c = search needs
-
 word-at-requires-2 : tie.Need-word-at-requires-2
 word-at-requires-2 c κs =
     let a = c .before .before in
     let g = group-there (a .args .s .now) 0 (a .args .at) First (word (a .args .s .now) (a .args .at + 12)) (a .args .records) (a .args .seconds) (a .pre .0) (a .pre .1) in
     omega (arith, g .1 .0, g .1 .1)
-
-add-t11 : tie.Need-add-t11
-add-t11 c = search needs
-
-add-t12 : tie.Need-add-t12
-add-t12 c = search needs
 
 ctab-place-requires : tie.Need-ctab-place-requires
 ctab-place-requires c κs =
@@ -54,13 +36,13 @@ pub standing-at-spec : {M : Type 1} → statement M
 standing-at-spec =
     tie.close
     (tie.spec
-    add-word-at
+    (λ c. search needs)
     word-at-requires
-    add-ctabs
-    add-ctabs-2
-    add-word-at-2
+    (λ c. search needs)
+    (λ c. search needs)
+    (λ c. search needs)
     word-at-requires-2
-    add-t11
-    add-t12
+    (λ c. search needs)
+    (λ c. search needs)
     ctab-place-requires
     returns)

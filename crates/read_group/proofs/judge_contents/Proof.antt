@@ -8,29 +8,14 @@ use borrow.Author.Needs.{needs}
 use Rattle.read_group.proofs.judge_contents.Statement.{statement}
 use Rattle.read_group.proofs.judge_contents.Tie as tie
 
-head-fault-requires : tie.Need-head-fault-requires
-head-fault-requires c κs = search needs
-
 returns : tie.Need-returns
 returns c = sym (contents-head _ _ (c .before .head-fault .ensures) (c .if1 .taken))
 
 word-at-requires : tie.Need-word-at-requires
 word-at-requires c κs = omega (arith, head-within _ _ _ _ (c .before .head-fault .ensures) (c .if1 .left))
 
-add-p : tie.Need-add-p
-add-p c = search needs
-
-sub-is-sound-text : tie.Need-sub-is-sound-text
-sub-is-sound-text c = search needs
-
-part-is-sound-text-start : tie.Need-part-is-sound-text-start
-part-is-sound-text-start c = search needs
-
 part-is-sound-text-end : tie.Need-part-is-sound-text-end
 part-is-sound-text-end c = omega (arith, head-within _ _ _ _ (c .before .before .head-fault .ensures) (c .before .if1 .left), c .word-at .ensures .0)
-
-is-sound-text-requires : tie.Need-is-sound-text-requires
-is-sound-text-requires c κs = search needs
 
 returns-2 : tie.Need-returns-2
 returns-2 c =
@@ -42,20 +27,8 @@ read-ctabs-requires c κs =
     let d = c .before .before .before in
     omega (arith, head-within _ _ _ _ (d .before .before .head-fault .ensures) (d .before .if1 .left), d .word-at .ensures .0)
 
-enum-known-run : tie.Need-enum-known-run
-enum-known-run c = search needs
-
-enum-known-run-2 : tie.Need-enum-known-run-2
-enum-known-run-2 c = search needs
-
 read-cntts-requires : tie.Need-read-cntts-requires
 read-cntts-requires c κs = c .before .before .before .before .before .read-ctabs .ensures .homes _ (c .before .before .run2 .given .1)
-
-enum-known-number : tie.Need-enum-known-number
-enum-known-number c = search needs
-
-enum-known-m : tie.Need-enum-known-m
-enum-known-m c = search needs
 
 returns-3 : tie.Need-returns-3
 returns-3 c =
@@ -84,21 +57,21 @@ pub judge-contents-spec : {M : Type 1} → statement M
 judge-contents-spec =
     tie.close
     (tie.spec
-    head-fault-requires
+    (λ c κs. search needs)
     returns
     word-at-requires
-    add-p
-    sub-is-sound-text
-    part-is-sound-text-start
+    (λ c. search needs)
+    (λ c. search needs)
+    (λ c. search needs)
     part-is-sound-text-end
-    is-sound-text-requires
+    (λ c κs. search needs)
     returns-2
     read-ctabs-requires
-    enum-known-run
-    enum-known-run-2
+    (λ c. search needs)
+    (λ c. search needs)
     read-cntts-requires
-    enum-known-number
-    enum-known-m
+    (λ c. search needs)
+    (λ c. search needs)
     returns-3
     returns-4
     returns-5)

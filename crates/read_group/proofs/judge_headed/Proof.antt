@@ -29,9 +29,6 @@ returns c =
     let d = c .before in
     sym (group-empty _ _ (headed _ (d .before .before .pre)) refl _ (d .word-at .ensures .0) (c .if1 .taken))
 
-add-end : tie.Need-add-end
-add-end c = search needs
-
 sub-judge-contents : tie.Need-sub-judge-contents
 sub-judge-contents c = omega (arith, within _ (c .before .before .before .pre))
 
@@ -43,20 +40,11 @@ part-judge-contents-end c =
     let d = c .before in
     omega (arith, within _ (d .before .before .pre), d .word-at .ensures .0)
 
-judge-contents-requires : tie.Need-judge-contents-requires
-judge-contents-requires c κs = search needs
-
-enum-known-number : tie.Need-enum-known-number
-enum-known-number c = search needs
-
 add-t17 : tie.Need-add-t17
 add-t17 c =
     let j = c .before .before .before in
     let is = sym (j .judge-contents .ensures) ∙ c .before .number .given .1 in
     omega (arith, rw (length-take, length-drop) at (contents-place _ _ _ is))
-
-enum-known-edition : tie.Need-enum-known-edition
-enum-known-edition c = search needs
 
 returns-2 : tie.Need-returns-2
 returns-2 c =
@@ -78,13 +66,13 @@ judge-headed-spec =
     (tie.spec
     word-at-requires
     returns
-    add-end
+    (λ c. search needs)
     sub-judge-contents
     part-judge-contents-start
     part-judge-contents-end
-    judge-contents-requires
-    enum-known-number
+    (λ c κs. search needs)
+    (λ c. search needs)
     add-t17
-    enum-known-edition
+    (λ c. search needs)
     returns-2
     returns-3)

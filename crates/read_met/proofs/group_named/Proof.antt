@@ -19,17 +19,8 @@ abbrev μ-loop : tie.MeasureT-loop
 loop-holds : tie.Need-loop-holds Inv-loop μ-loop
 loop-holds c = (search needs, named-start _ _ _)
 
-mul-start : tie.Need-mul-start Inv-loop μ-loop
-mul-start c = search needs
-
-element-copy-out-start : tie.Need-element-copy-out-start Inv-loop μ-loop
-element-copy-out-start c = search needs
-
 add-start : tie.Need-add-start Inv-loop μ-loop
 add-start c = omega (arith, text-fits (c .before .before .before .before .before .args .s .now) (c .before .before .before .before .before .args .places .now) (c .before .before .before .before .before .args .n) (c .before .before .loop .k) (c .before .before .before .before .before .pre .1) (omega arith))
-
-sub-word-at : tie.Need-sub-word-at Inv-loop μ-loop
-sub-word-at c = search needs
 
 word-at-requires : tie.Need-word-at-requires Inv-loop μ-loop
 word-at-requires c κs = omega (arith, text-fits (c .before .before .before .before .before .args .s .now) (c .before .before .before .before .before .args .places .now) (c .before .before .before .before .before .args .n) (c .before .before .loop .k) (c .before .before .before .before .before .pre .1) (omega arith))
@@ -37,29 +28,14 @@ word-at-requires c κs = omega (arith, text-fits (c .before .before .before .bef
 add-end : tie.Need-add-end Inv-loop μ-loop
 add-end c = omega (arith, text-fits (c .before .before .before .before .before .before .args .s .now) (c .before .before .before .before .before .before .args .places .now) (c .before .before .before .before .before .before .args .n) (c .before .before .before .loop .k) (c .before .before .before .before .before .before .pre .1) (omega arith), c .word-at .ensures .0)
 
-sub-has-name : tie.Need-sub-has-name Inv-loop μ-loop
-sub-has-name c = search needs
-
-part-has-name-start : tie.Need-part-has-name-start Inv-loop μ-loop
-part-has-name-start c = search needs
-
 part-has-name-end : tie.Need-part-has-name-end Inv-loop μ-loop
 part-has-name-end c = omega (arith, text-fits (c .before .before .before .before .before .before .args .s .now) (c .before .before .before .before .before .before .args .places .now) (c .before .before .before .before .before .before .args .n) (c .before .before .before .loop .k) (c .before .before .before .before .before .before .pre .1) (omega arith), c .word-at .ensures .0)
-
-has-name-requires : tie.Need-has-name-requires Inv-loop μ-loop
-has-name-requires c κs = search needs
 
 returns : tie.Need-returns Inv-loop μ-loop
 returns c =
     let r = c .before .before .before .before .before .before .before .before .before in
     let l = c .before .before .before .before .before .before .loop in
     named-here _ _ _ _ (l .inv .1) _ (text-part _ _ _ _ (r .pre .1) (omega arith) _ (c .before .before .before .word-at .ensures .0)) (omega arith) (sym (c .before .has-name .ensures) ∙ c .if1 .taken)
-
-add-k : tie.Need-add-k Inv-loop μ-loop
-add-k c = search needs
-
-loop-less : tie.Need-loop-less Inv-loop μ-loop
-loop-less c = search needs
 
 loop-again : tie.Need-loop-again Inv-loop μ-loop
 loop-again c =
@@ -77,18 +53,18 @@ group-named-spec =
     Inv-loop
     μ-loop
     loop-holds
-    mul-start
-    element-copy-out-start
+    (λ c. search needs)
+    (λ c. search needs)
     add-start
-    sub-word-at
+    (λ c. search needs)
     word-at-requires
     add-end
-    sub-has-name
-    part-has-name-start
+    (λ c. search needs)
+    (λ c. search needs)
     part-has-name-end
-    has-name-requires
+    (λ c κs. search needs)
     returns
-    add-k
-    loop-less
+    (λ c. search needs)
+    (λ c. search needs)
     loop-again
     returns-2)

@@ -15,40 +15,10 @@ Inv-loop s n places table₀ at text start end t i₀ table i = (i ≤ length t 
 abbrev μ-loop : tie.MeasureT-loop
 μ-loop s n places table₀ at text start end t i₀ table i = length t + 1 - i
 
-add-start : tie.Need-add-start Inv-loop μ-loop
-add-start c = search needs
-
-add-end : tie.Need-add-end Inv-loop μ-loop
-add-end c = search needs
-
-sub-t : tie.Need-sub-t Inv-loop μ-loop
-sub-t c = search needs
-
-part-t-start : tie.Need-part-t-start Inv-loop μ-loop
-part-t-start c = search needs
-
-part-t-end : tie.Need-part-t-end Inv-loop μ-loop
-part-t-end c = search needs
-
 loop-holds : tie.Need-loop-holds Inv-loop μ-loop
 loop-holds c =
     let p = c .before .before .pre in
     (omega arith, passing-start _ _ _ _ _ (text-there _ _ _ _ refl (p .1 .1 .1 .0)) (p .1 .1 .0))
-
-name-end-requires : tie.Need-name-end-requires Inv-loop μ-loop
-name-end-requires c κs = search needs
-
-sub-name : tie.Need-sub-name Inv-loop μ-loop
-sub-name c = search needs
-
-part-name-start : tie.Need-part-name-start Inv-loop μ-loop
-part-name-start c = search needs
-
-part-name-end : tie.Need-part-name-end Inv-loop μ-loop
-part-name-end c = search needs
-
-mark-of-requires : tie.Need-mark-of-requires Inv-loop μ-loop
-mark-of-requires c κs = search needs
 
 meet-requires : tie.Need-meet-requires Inv-loop μ-loop
 meet-requires c κs = (c .before .before .before .before .before .loop .inv .1 .known .size, c .mark-of .ensures .1)
@@ -63,12 +33,6 @@ returns : tie.Need-returns Inv-loop μ-loop
 returns c =
     let l = c .before .before .before .before .before .before .before .before .loop in
     passing-taken _ _ _ _ _ _ (l .inv .1) _ (c .before .before .before .before .before .before .name-end .ensures) _ (sym (c .if1 .taken) ∙ c .before .is-taken .ensures)
-
-add-i : tie.Need-add-i Inv-loop μ-loop
-add-i c = search needs
-
-loop-less : tie.Need-loop-less Inv-loop μ-loop
-loop-less c = search needs
 
 loop-again : tie.Need-loop-again Inv-loop μ-loop
 loop-again c =
@@ -85,21 +49,21 @@ is-named-before-spec =
     (tie.spec
     Inv-loop
     μ-loop
-    add-start
-    add-end
-    sub-t
-    part-t-start
-    part-t-end
+    (λ c. search needs)
+    (λ c. search needs)
+    (λ c. search needs)
+    (λ c. search needs)
+    (λ c. search needs)
     loop-holds
-    name-end-requires
-    sub-name
-    part-name-start
-    part-name-end
-    mark-of-requires
+    (λ c κs. search needs)
+    (λ c. search needs)
+    (λ c. search needs)
+    (λ c. search needs)
+    (λ c κs. search needs)
     meet-requires
     is-taken-requires
     returns
-    add-i
-    loop-less
+    (λ c. search needs)
+    (λ c. search needs)
     loop-again
     returns-2)

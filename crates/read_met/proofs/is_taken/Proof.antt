@@ -10,11 +10,8 @@ use Rattle.read_met.proofs.is_taken.Tie as tie
 returns : tie.Need-returns
 returns c = sym (le-ltb _ _ (c .before .before .before .pre .1 .1 (not-true _ (c .if1 .taken))))
 
-group-named-requires : tie.Need-group-named-requires
-group-named-requires c κs = search needs
-
 returns-2 : tie.Need-returns-2
 returns-2 c = ap (λ (k : ℕ). ltb k (c .before .before .before .before .args .n)) (c .group-named .ensures)
 
 pub is-taken-spec : {M : Type 1} → statement M
-is-taken-spec = tie.close (tie.spec returns group-named-requires returns-2)
+is-taken-spec = tie.close (tie.spec returns (λ c κs. search needs) returns-2)

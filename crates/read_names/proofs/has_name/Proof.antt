@@ -24,23 +24,11 @@ loop-holds c =
     let a = c .before .before .args in
     (search needs, ap (λ l. has l (a .name .now)) (names-start (a .t .now)))
 
-name-end-requires : tie.Need-name-end-requires Inv-loop μ-loop
-name-end-requires c κs = search needs
-
-is-name-requires : tie.Need-is-name-requires Inv-loop μ-loop
-is-name-requires c κs = search needs
-
 returns : tie.Need-returns Inv-loop μ-loop
 returns c =
     let l = c .before .before .before .before .loop in
     let h = c .before .before .name-end .ensures in
     sym (l .inv .1 ∙ has-cut _ _ _ (h .cut) true _ (sym (c .if1 .taken) ∙ c .before .is-name .ensures))
-
-add-i : tie.Need-add-i Inv-loop μ-loop
-add-i c = search needs
-
-loop-less : tie.Need-loop-less Inv-loop μ-loop
-loop-less c = search needs
 
 loop-again : tie.Need-loop-again Inv-loop μ-loop
 loop-again c =
@@ -60,10 +48,10 @@ has-name-spec =
     Inv-loop
     μ-loop
     loop-holds
-    name-end-requires
-    is-name-requires
+    (λ c κs. search needs)
+    (λ c κs. search needs)
     returns
-    add-i
-    loop-less
+    (λ c. search needs)
+    (λ c. search needs)
     loop-again
     returns-2)

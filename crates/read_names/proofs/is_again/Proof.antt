@@ -22,12 +22,6 @@ abbrev μ-loop : tie.MeasureT-loop
 loop-holds : tie.Need-loop-holds Inv-loop μ-loop
 loop-holds c = (search needs, (c .before .before .pre .1 .1, refl))
 
-element-copy-out-wide : tie.Need-element-copy-out-wide Inv-loop μ-loop
-element-copy-out-wide c = search needs
-
-wide-requires : tie.Need-wide-requires Inv-loop μ-loop
-wide-requires c κs = search needs
-
 is-name-requires : tie.Need-is-name-requires Inv-loop μ-loop
 is-name-requires c κs =
     let a = c .before .before .before .before .before .before .args in
@@ -42,15 +36,6 @@ returns c =
     let w = c .before .before .wide in
     let n = cuts-next (a .ends .now) (l .i) (l .k) (a .m) (w .result) (omega arith) (omega arith) (w .ensures .0) (a .t .now) in
     sym (l .inv .1 .1 ∙ has-cut _ _ _ n true _ (sym (c .if1 .taken) ∙ c .before .is-name .ensures))
-
-add-i : tie.Need-add-i Inv-loop μ-loop
-add-i c = search needs
-
-add-k : tie.Need-add-k Inv-loop μ-loop
-add-k c = search needs
-
-loop-less : tie.Need-loop-less Inv-loop μ-loop
-loop-less c = search needs
 
 loop-again : tie.Need-loop-again Inv-loop μ-loop
 loop-again c =
@@ -74,12 +59,12 @@ is-again-spec =
     Inv-loop
     μ-loop
     loop-holds
-    element-copy-out-wide
-    wide-requires
+    (λ c. search needs)
+    (λ c κs. search needs)
     is-name-requires
     returns
-    add-i
-    add-k
-    loop-less
+    (λ c. search needs)
+    (λ c. search needs)
+    (λ c. search needs)
     loop-again
     returns-2)

@@ -20,9 +20,6 @@ returns c = sym (text-long _ (omega arith))
 loop-holds : tie.Need-loop-holds Inv-loop μ-loop
 loop-holds c = (search needs, (search needs, (search needs, (search needs, kept-none _))))
 
-checked-end-requires : tie.Need-checked-end-requires Inv-loop μ-loop
-checked-end-requires c κs = search needs
-
 returns-2 : tie.Need-returns-2 Inv-loop μ-loop
 returns-2 c =
     let l = c .before .before .before .loop in
@@ -34,23 +31,11 @@ returns-3 c =
     let h = c .before .before .checked-end .ensures .ends (omega arith) in
     sym (text-size _ _ _ (l .inv .1 .1 .1 .1) _ h (inside-low 1 16 _ (omega arith)))
 
-sub-if4 : tie.Need-sub-if4 Inv-loop μ-loop
-sub-if4 c = search needs
-
 returns-4 : tie.Need-returns-4 Inv-loop μ-loop
 returns-4 c =
     let l = c .before .before .before .before .before .loop in
     let h = c .before .before .before .checked-end .ensures .ends (omega arith) in
     sym (text-size _ _ _ (l .inv .1 .1 .1 .1) _ h (inside-high 1 16 _ (omega arith)))
-
-sub-is-again : tie.Need-sub-is-again Inv-loop μ-loop
-sub-is-again c = search needs
-
-part-is-again-start : tie.Need-part-is-again-start Inv-loop μ-loop
-part-is-again-start c = search needs
-
-part-is-again-end : tie.Need-part-is-again-end Inv-loop μ-loop
-part-is-again-end c = search needs
 
 is-again-requires : tie.Need-is-again-requires Inv-loop μ-loop
 is-again-requires c κs =
@@ -62,21 +47,6 @@ returns-5 c =
     let l = c .before .before .before .before .before .before .before .before .before .loop in
     let h = c .before .before .before .before .before .before .before .checked-end .ensures .ends (omega arith) in
     sym (text-again _ _ _ (l .inv .1 .1 .1 .1) _ h (sym (c .before .is-again .ensures) ∙ c .if5 .taken))
-
-cast-ends : tie.Need-cast-ends Inv-loop μ-loop
-cast-ends c = search needs
-
-array-write-ends : tie.Need-array-write-ends Inv-loop μ-loop
-array-write-ends c = search needs
-
-add-m : tie.Need-add-m Inv-loop μ-loop
-add-m c = search needs
-
-add-i : tie.Need-add-i Inv-loop μ-loop
-add-i c = search needs
-
-loop-less : tie.Need-loop-less Inv-loop μ-loop
-loop-less c = search needs
 
 loop-again : tie.Need-loop-again Inv-loop μ-loop
 loop-again c =
@@ -98,20 +68,20 @@ is-sound-text-spec =
     μ-loop
     returns
     loop-holds
-    checked-end-requires
+    (λ c κs. search needs)
     returns-2
     returns-3
-    sub-if4
+    (λ c. search needs)
     returns-4
-    sub-is-again
-    part-is-again-start
-    part-is-again-end
+    (λ c. search needs)
+    (λ c. search needs)
+    (λ c. search needs)
     is-again-requires
     returns-5
-    cast-ends
-    array-write-ends
-    add-m
-    add-i
-    loop-less
+    (λ c. search needs)
+    (λ c. search needs)
+    (λ c. search needs)
+    (λ c. search needs)
+    (λ c. search needs)
     loop-again
     returns-6)

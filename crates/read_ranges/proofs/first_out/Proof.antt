@@ -12,9 +12,6 @@ enum-told c = search needs
 first-out-ctab-requires : tie.Need-first-out-ctab-requires
 first-out-ctab-requires c κs = (most-of _ First _ (c .enum-told .given .1) (c .before .before .before .pre .0), c .before .before .before .pre .1)
 
-enum-told-2 : tie.Need-enum-told-2
-enum-told-2 c = search needs
-
 first-out-ctb2-requires : tie.Need-first-out-ctb2-requires
 first-out-ctb2-requires c κs = (most-of _ Second _ (c .enum-told2 .given .1) (c .before .before .before .pre .0), c .before .before .before .pre .1)
 
@@ -27,4 +24,4 @@ returns-2 c = first-judged _ _ _ _ _ _ (c .before .enum-told2 .given .1) (c .fir
 pub first-out-spec : {M : Type 1} → statement M
 first-out-spec =
     tie.close
-    (tie.spec enum-told first-out-ctab-requires enum-told-2 first-out-ctb2-requires returns returns-2)
+    (tie.spec enum-told first-out-ctab-requires (λ c. search needs) first-out-ctb2-requires returns returns-2)

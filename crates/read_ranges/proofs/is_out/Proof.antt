@@ -12,9 +12,6 @@ enum-told c = search needs
 is-out-ctab-requires : tie.Need-is-out-ctab-requires
 is-out-ctab-requires c κs = size-of _ First _ (c .enum-told .given .1) (c .before .before .pre)
 
-enum-told-2 : tie.Need-enum-told-2
-enum-told-2 c = search needs
-
 is-out-ctb2-requires : tie.Need-is-out-ctb2-requires
 is-out-ctb2-requires c κs = size-of _ Second _ (c .enum-told2 .given .1) (c .before .before .pre)
 
@@ -27,4 +24,4 @@ returns-2 c = judged _ _ _ _ _ _ (c .before .enum-told2 .given .1) (c .is-out-ct
 pub is-out-spec : {M : Type 1} → statement M
 is-out-spec =
     tie.close
-    (tie.spec enum-told is-out-ctab-requires enum-told-2 is-out-ctb2-requires returns returns-2)
+    (tie.spec enum-told is-out-ctab-requires (λ c. search needs) is-out-ctb2-requires returns returns-2)

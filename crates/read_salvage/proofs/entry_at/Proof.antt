@@ -5,37 +5,13 @@ use borrow.Author.Needs.{needs}
 use Rattle.read_salvage.proofs.entry_at.Statement.{statement}
 use Rattle.read_salvage.proofs.entry_at.Tie as tie
 
-next-cseg-requires : tie.Need-next-cseg-requires
-next-cseg-requires c κs = search needs
-
-sub-t6 : tie.Need-sub-t6
-sub-t6 c = search needs
-
 returns : tie.Need-returns
 returns c = entry-rest _ _ _ (search needs) (c .before .next-cseg .ensures)
-
-add-next-cseg : tie.Need-add-next-cseg
-add-next-cseg c = search needs
 
 next-cseg-requires-2 : tie.Need-next-cseg-requires-2
 next-cseg-requires-2 c κs =
     let a = c .before .before .before .args in
     cseg-letters (a .i) (a .body .now) (next-here _ _ _ (c .before .next-cseg .ensures) (search needs) (search needs)) .long
-
-cast-t7 : tie.Need-cast-t7
-cast-t7 c = search needs
-
-sub-judge-piece : tie.Need-sub-judge-piece
-sub-judge-piece c = search needs
-
-part-judge-piece-start : tie.Need-part-judge-piece-start
-part-judge-piece-start c = search needs
-
-part-judge-piece-end : tie.Need-part-judge-piece-end
-part-judge-piece-end c = search needs
-
-judge-piece-requires : tie.Need-judge-piece-requires
-judge-piece-requires c κs = search needs
 
 returns-2 : tie.Need-returns-2
 returns-2 c =
@@ -46,14 +22,14 @@ pub entry-at-spec : {M : Type 1} → statement M
 entry-at-spec =
     tie.close
     (tie.spec
-    next-cseg-requires
-    sub-t6
-    cast-t7
+    (λ c κs. search needs)
+    (λ c. search needs)
+    (λ c. search needs)
     returns
-    add-next-cseg
+    (λ c. search needs)
     next-cseg-requires-2
-    sub-judge-piece
-    part-judge-piece-start
-    part-judge-piece-end
-    judge-piece-requires
+    (λ c. search needs)
+    (λ c. search needs)
+    (λ c. search needs)
+    (λ c κs. search needs)
     returns-2)

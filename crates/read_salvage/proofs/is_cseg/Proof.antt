@@ -4,11 +4,8 @@ use borrow.Author.Needs.{needs}
 use Rattle.read_salvage.proofs.is_cseg.Statement.{statement}
 use Rattle.read_salvage.proofs.is_cseg.Tie as tie
 
-is-tagged-requires : tie.Need-is-tagged-requires
-is-tagged-requires c κs = search needs
-
 returns : tie.Need-returns
 returns c = c .is-tagged .ensures ∙ cseg-tagged _ _
 
 pub is-cseg-spec : {M : Type 1} → statement M
-is-cseg-spec = tie.close (tie.spec is-tagged-requires returns)
+is-cseg-spec = tie.close (tie.spec (λ c κs. search needs) returns)

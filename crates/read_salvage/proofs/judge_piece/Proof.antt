@@ -7,23 +7,8 @@ use borrow.Author.Needs.{needs}
 use Rattle.read_salvage.proofs.judge_piece.Statement.{statement}
 use Rattle.read_salvage.proofs.judge_piece.Tie as tie
 
-judge-group-requires : tie.Need-judge-group-requires
-judge-group-requires c κs = search needs
-
-enum-known-number : tie.Need-enum-known-number
-enum-known-number c = search needs
-
-cast-t11 : tie.Need-cast-t11
-cast-t11 c = search needs
-
-enum-known-text : tie.Need-enum-known-text
-enum-known-text c = search needs
-
 word-at-requires : tie.Need-word-at-requires
 word-at-requires c κs = omega (arith, sound-at _ _ _ _ _ (sym (c .before .before .before .judge-group .ensures) ∙ c .before .text .given .1) .long)
-
-add-size : tie.Need-add-size
-add-size c = search needs
 
 returns : tie.Need-returns
 returns c = led-unsound _ _ _ (search needs) (sym (c .before .before .before .judge-group .ensures) ∙ c .before .number .given .1)
@@ -35,11 +20,11 @@ pub judge-piece-spec : {M : Type 1} → statement M
 judge-piece-spec =
     tie.close
     (tie.spec
-    judge-group-requires
-    enum-known-number
-    cast-t11
-    enum-known-text
+    (λ c κs. search needs)
+    (λ c. search needs)
+    (λ c. search needs)
+    (λ c. search needs)
     word-at-requires
-    add-size
+    (λ c. search needs)
     returns
     returns-2)

@@ -11,12 +11,6 @@ use Rattle.read_salvage.proofs.list_salvage.Tie as tie
 returns : tie.Need-returns
 returns c = too-long _ _ (search needs)
 
-fits-requires : tie.Need-fits-requires
-fits-requires c κs = search needs
-
-same-length : tie.Need-same-length
-same-length c = search needs
-
 returns-2 : tie.Need-returns-2
 returns-2 c =
     let f = c .before .before .before in
@@ -27,9 +21,6 @@ entries-requires : tie.Need-entries-requires
 entries-requires c κs e =
     let f = c .before .before .before .before in
     has-room _ _ _ (sym (f .fits2 .ensures .0) ∙ not-false _ (c .before .if2 .left)) (f .fits2 .ensures .1)
-
-same-length-2 : tie.Need-same-length-2
-same-length-2 c = search needs
 
 returns-3 : tie.Need-returns-3
 returns-3 c =
@@ -42,4 +33,4 @@ returns-3 c =
 pub list-salvage-spec : {M : Type 1} → statement M
 list-salvage-spec =
     tie.close
-    (tie.spec returns fits-requires same-length returns-2 entries-requires same-length-2 returns-3)
+    (tie.spec returns (λ c κs. search needs) (λ c. search needs) returns-2 entries-requires (λ c. search needs) returns-3)

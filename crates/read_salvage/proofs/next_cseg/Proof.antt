@@ -19,32 +19,11 @@ abbrev μ-loop : tie.MeasureT-loop
 returns : tie.Need-returns Inv-loop μ-loop
 returns c = record { from = search needs; within = search needs; none = tail-none _ _ 0 (omega arith) (λ j a b. absurd (omega arith)); here = λ l. absurd (omega arith) }
 
-sub-end : tie.Need-sub-end Inv-loop μ-loop
-sub-end c = search needs
-
 loop-holds : tie.Need-loop-holds Inv-loop μ-loop
 loop-holds c = (search needs, search needs, λ j a b. absurd (omega arith))
 
-is-cseg-requires : tie.Need-is-cseg-requires Inv-loop μ-loop
-is-cseg-requires c κs = search needs
-
 returns-2 : tie.Need-returns-2 Inv-loop μ-loop
 returns-2 c = record { from = search needs; within = search needs; none = search needs; here = λ _. sym (c .before .is-cseg .ensures) ∙ c .if2 .taken }
-
-add-skip : tie.Need-add-skip Inv-loop μ-loop
-add-skip c = search needs
-
-shared-slice-read-skip : tie.Need-shared-slice-read-skip Inv-loop μ-loop
-shared-slice-read-skip c = search needs
-
-skip-requires : tie.Need-skip-requires Inv-loop μ-loop
-skip-requires c κs = search needs
-
-add-k : tie.Need-add-k Inv-loop μ-loop
-add-k c = search needs
-
-loop-less : tie.Need-loop-less Inv-loop μ-loop
-loop-less c = search needs
 
 loop-again : tie.Need-loop-again Inv-loop μ-loop
 loop-again c =
@@ -61,14 +40,14 @@ next-cseg-spec =
     Inv-loop
     μ-loop
     returns
-    sub-end
+    (λ c. search needs)
     loop-holds
-    is-cseg-requires
+    (λ c κs. search needs)
     returns-2
-    add-skip
-    shared-slice-read-skip
-    skip-requires
-    add-k
-    loop-less
+    (λ c. search needs)
+    (λ c. search needs)
+    (λ c κs. search needs)
+    (λ c. search needs)
+    (λ c. search needs)
     loop-again
     returns-3)

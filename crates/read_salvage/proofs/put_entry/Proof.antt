@@ -37,15 +37,9 @@ mul-list-3 c = omega (arith, fitting c)
 slice-write-list-3 : tie.Need-slice-write-list-3
 slice-write-list-3 c = rw (length-set, length-set) (omega (arith, fitting c))
 
-same-length : tie.Need-same-length
-same-length c = search needs
-
 returns : tie.Need-returns
 unfolding entryPut
 returns c = rw (c .if1 .taken)
-
-returns-2 : tie.Need-returns-2
-returns-2 c = search needs
 
 pub put-entry-spec : {M : Type 1} → statement M
 put-entry-spec =
@@ -60,6 +54,6 @@ put-entry-spec =
     add-list-2
     mul-list-3
     slice-write-list-3
-    same-length
+    (λ c. search needs)
     returns
-    returns-2)
+    (λ c. search needs))

@@ -5,9 +5,6 @@ use borrow.Author.Needs.{needs}
 use Rattle.read_style.proofs.casm_after.Statement.{statement}
 use Rattle.read_style.proofs.casm_after.Tie as tie
 
-is-tagged-requires : tie.Need-is-tagged-requires
-is-tagged-requires c κs = search needs
-
 returns : tie.Need-returns
 unfolding four
 returns c = rw (sym (c .before .is-tagged .ensures) ∙ c .if1 .taken)
@@ -17,4 +14,4 @@ unfolding four
 returns-2 c = rw (sym (c .before .is-tagged .ensures) ∙ c .if1 .left)
 
 pub casm-after-spec : {M : Type 1} → statement M
-casm-after-spec = tie.close (tie.spec is-tagged-requires returns returns-2)
+casm-after-spec = tie.close (tie.spec (λ c κs. search needs) returns returns-2)

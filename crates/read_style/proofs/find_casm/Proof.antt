@@ -9,17 +9,8 @@ use borrow.Author.Needs.{needs}
 use Rattle.read_style.proofs.find_casm.Statement.{statement}
 use Rattle.read_style.proofs.find_casm.Tie as tie
 
-refusal-requires : tie.Need-refusal-requires
-refusal-requires c κs = search needs
-
 returns : tie.Need-returns
 returns c = c .refusal .ensures ∙ ap located (sym (file-over _ (omega arith)))
-
-is-no-style-requires : tie.Need-is-no-style-requires
-is-no-style-requires c κs = search needs
-
-refusal-requires-2 : tie.Need-refusal-requires-2
-refusal-requires-2 c κs = search needs
 
 returns-2 : tie.Need-returns-2
 returns-2 c = c .refusal2 .ensures ∙ ap located (sym (no-style _ (omega arith) (sym (c .before .before .is-no-style .ensures) ∙ c .before .if2 .taken)))
@@ -27,24 +18,12 @@ returns-2 c = c .refusal2 .ensures ∙ ap located (sym (no-style _ (omega arith)
 read-sections-requires : tie.Need-read-sections-requires
 read-sections-requires c κs = track-within _ (sym (c .before .is-no-style .ensures) ∙ c .if2 .left)
 
-enum-known-run : tie.Need-enum-known-run
-enum-known-run c = search needs
-
-refusal-requires-3 : tie.Need-refusal-requires-3
-refusal-requires-3 c κs = search needs
-
 returns-3 : tie.Need-returns-3
 returns-3 c =
     let d = c .before .before in
     let e = d .before .before in
     c .refusal3 .ensures
     ∙ ap located (sym (sections-stopped _ (omega arith) (sym (e .before .before .is-no-style .ensures) ∙ e .before .if2 .left) _ _ (sym (e .read-sections .ensures .run) ∙ d .run .given .1)))
-
-enum-known-run-2 : tie.Need-enum-known-run-2
-enum-known-run-2 c = search needs
-
-refusal-requires-4 : tie.Need-refusal-requires-4
-refusal-requires-4 c κs = search needs
 
 returns-4 : tie.Need-returns-4
 returns-4 c =
@@ -68,9 +47,6 @@ word-at-requires c κs =
     let e = d .before .before in
     let known = e .read-sections .ensures .casm _ (d .run2 .given .1) in
     omega (arith, casm-fits _ _ _ (known .0) (known .1) (c .if3 .left))
-
-refusal-requires-5 : tie.Need-refusal-requires-5
-refusal-requires-5 c κs = search needs
 
 returns-5 : tie.Need-returns-5
 returns-5 c =
@@ -97,20 +73,20 @@ pub find-casm-spec : {M : Type 1} → statement M
 find-casm-spec =
     tie.close
     (tie.spec
-    refusal-requires
+    (λ c κs. search needs)
     returns
-    is-no-style-requires
-    refusal-requires-2
+    (λ c κs. search needs)
+    (λ c κs. search needs)
     returns-2
     read-sections-requires
-    enum-known-run
-    refusal-requires-3
+    (λ c. search needs)
+    (λ c κs. search needs)
     returns-3
-    enum-known-run-2
-    refusal-requires-4
+    (λ c. search needs)
+    (λ c κs. search needs)
     returns-4
     add-word-at
     word-at-requires
-    refusal-requires-5
+    (λ c κs. search needs)
     returns-5
     returns-6)

@@ -10,34 +10,19 @@ use Rattle.read_style.proofs.is_no_style.Tie as tie
 returns : tie.Need-returns
 returns c = sym (style-short _ (omega arith))
 
-is-tagged-requires : tie.Need-is-tagged-requires
-is-tagged-requires c κs = search needs
-
 returns-2 : tie.Need-returns-2
 returns-2 c = sym (style-head _ (omega arith) _ (c .before .is-tagged .ensures) (not-true _ (c .if2 .taken)))
-
-word-at-requires : tie.Need-word-at-requires
-word-at-requires c κs = search needs
 
 returns-3 : tie.Need-returns-3
 returns-3 c =
     let d = c .before .before in
     sym (style-six _ (omega arith) _ (d .before .is-tagged .ensures) (not-false _ (d .if2 .left)) (λ e. c .if3 .taken (c .before .word-at .ensures .0 ∙ e)))
 
-is-tagged-requires-2 : tie.Need-is-tagged-requires-2
-is-tagged-requires-2 c κs = search needs
-
 returns-4 : tie.Need-returns-4
 returns-4 c =
     let d = c .before .before .before .before in
     sym (style-track _ (omega arith) _ (d .before .is-tagged .ensures) (not-false _ (d .if2 .left)) (sym (c .before .before .before .word-at .ensures .0) ∙ c .before .before .if3 .left) _
     (c .before .is-tagged2 .ensures) (not-true _ (c .if4 .taken)))
-
-sub-result : tie.Need-sub-result
-sub-result c = search needs
-
-word-at-requires-2 : tie.Need-word-at-requires-2
-word-at-requires-2 c κs = search needs
 
 returns-5 : tie.Need-returns-5
 returns-5 c =
@@ -51,12 +36,12 @@ is-no-style-spec =
     tie.close
     (tie.spec
     returns
-    is-tagged-requires
+    (λ c κs. search needs)
     returns-2
-    word-at-requires
+    (λ c κs. search needs)
     returns-3
-    is-tagged-requires-2
+    (λ c κs. search needs)
     returns-4
-    sub-result
-    word-at-requires-2
+    (λ c. search needs)
+    (λ c κs. search needs)
     returns-5)

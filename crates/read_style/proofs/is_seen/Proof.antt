@@ -52,12 +52,6 @@ add-place-2 c =
     let l = c .before .before .before .before .loop in
     omega (arith, fit-at _ (l .k) _ (l .inv .1 .0) _ (c .before .before .before .before .before .before .pre .1 .0) (omega arith), c .word-at2 .ensures .0)
 
-add-k : tie.Need-add-k Inv-loop μ-loop
-add-k c = search needs
-
-loop-less : tie.Need-loop-less Inv-loop μ-loop
-loop-less c = search needs
-
 loop-again : tie.Need-loop-again Inv-loop μ-loop
 loop-again c =
     let b = c .before .before in
@@ -86,7 +80,7 @@ is-seen-spec =
     add-word-at
     word-at-requires-2
     add-place-2
-    add-k
-    loop-less
+    (λ c. search needs)
+    (λ c. search needs)
     loop-again
     returns-2)

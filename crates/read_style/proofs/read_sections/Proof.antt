@@ -19,21 +19,12 @@ Inv-loop file start at₀ n₀ casm₀ at n casm = Walked file n at × (CasmAt f
 abbrev μ-loop : tie.MeasureT-loop
 μ-loop file start at₀ n₀ casm₀ at n casm = length file - n
 
-word-at-requires : tie.Need-word-at-requires Inv-loop μ-loop
-word-at-requires c κs = search needs
-
-add-start : tie.Need-add-start Inv-loop μ-loop
-add-start c = search needs
-
 loop-holds : tie.Need-loop-holds Inv-loop μ-loop
 unfolding sectionsRun
 loop-holds c = (walk-start _ _ (omega (arith, c .word-at .ensures .0)) (c .before .before .pre), (casm-start _, refl))
 
 section-turn-requires : tie.Need-section-turn-requires Inv-loop μ-loop
 section-turn-requires c κs = (omega (arith, c .before .word-at .ensures .0), c .loop .inv .0)
-
-enum-known-number : tie.Need-enum-known-number Inv-loop μ-loop
-enum-known-number c = search needs
 
 returns : tie.Need-returns Inv-loop μ-loop
 returns c =
@@ -54,9 +45,6 @@ returns-2 c =
       casm = λ m e. ended-casm _ _ _ m (l .inv .0 .fit) (l .inv .1 .0) e;
     }
 
-enum-told-2 : tie.Need-enum-told-2 Inv-loop μ-loop
-enum-told-2 c = search needs
-
 casm-after-requires : tie.Need-casm-after-requires Inv-loop μ-loop
 casm-after-requires c κs = omega (arith, section-more _ _ _ (sym (c .before .before .section-turn .ensures) ∙ c .enum-told2 .given .1) .within)
 
@@ -73,9 +61,6 @@ add-at-2 : tie.Need-add-at-2 Inv-loop μ-loop
 add-at-2 c =
     let d = c .before .before in
     omega (arith, section-more _ _ _ (sym (d .before .before .section-turn .ensures) ∙ d .enum-told2 .given .1) .within, c .word-at2 .ensures .0)
-
-add-n : tie.Need-add-n Inv-loop μ-loop
-add-n c = search needs
 
 loop-less : tie.Need-loop-less Inv-loop μ-loop
 loop-less c = omega (arith, c .before .before .before .before .before .loop .inv .0)
@@ -99,20 +84,20 @@ read-sections-spec =
     (tie.spec
     Inv-loop
     μ-loop
-    word-at-requires
-    add-start
+    (λ c κs. search needs)
+    (λ c. search needs)
     loop-holds
     section-turn-requires
-    enum-known-number
+    (λ c. search needs)
     returns
     enum-told
     returns-2
-    enum-told-2
+    (λ c. search needs)
     casm-after-requires
     add-at
     add-word-at
     word-at-requires-2
     add-at-2
-    add-n
+    (λ c. search needs)
     loop-less
     loop-again)

@@ -9,32 +9,11 @@ use Rattle.read_style.proofs.section_turn.Tie as tie
 returns : tie.Need-returns
 returns c = sym (turn-done _ _ _ (c .if1 .taken))
 
-sub-if2 : tie.Need-sub-if2
-sub-if2 c = search needs
-
 returns-2 : tie.Need-returns-2
 returns-2 c = sym (turn-cut _ _ _ (c .before .if1 .left) (omega arith))
 
-sub-if3 : tie.Need-sub-if3
-sub-if3 c = search needs
-
-sub-if3-2 : tie.Need-sub-if3-2
-sub-if3-2 c = search needs
-
-add-word-at : tie.Need-add-word-at
-add-word-at c = search needs
-
-word-at-requires : tie.Need-word-at-requires
-word-at-requires c κs = search needs
-
 returns-3 : tie.Need-returns-3
 returns-3 c = sym (turn-past _ _ _ (c .before .before .before .if1 .left) (omega arith) (omega arith))
-
-word-at-requires-2 : tie.Need-word-at-requires-2
-word-at-requires-2 c κs = search needs
-
-is-seen-requires : tie.Need-is-seen-requires
-is-seen-requires c κs = search needs
 
 returns-4 : tie.Need-returns-4
 returns-4 c =
@@ -51,14 +30,14 @@ section-turn-spec =
     tie.close
     (tie.spec
     returns
-    sub-if2
+    (λ c. search needs)
     returns-2
-    sub-if3
-    sub-if3-2
-    add-word-at
-    word-at-requires
+    (λ c. search needs)
+    (λ c. search needs)
+    (λ c. search needs)
+    (λ c κs. search needs)
     returns-3
-    word-at-requires-2
-    is-seen-requires
+    (λ c κs. search needs)
+    (λ c κs. search needs)
     returns-4
     returns-5)

@@ -6,33 +6,15 @@ use borrow.Author.Needs.{needs}
 use Rattle.write_edit.proofs.edit_record.Statement.{statement}
 use Rattle.write_edit.proofs.edit_record.Tie as tie
 
-find-record-requires : tie.Need-find-record-requires
-find-record-requires c κs = search needs
-
-enum-known-number : tie.Need-enum-known-number
-enum-known-number c = search needs
-
-answer-requires : tie.Need-answer-requires
-answer-requires c κs = search needs
-
-enum-known-at : tie.Need-enum-known-at
-enum-known-at c = search needs
-
 edit-at-requires : tie.Need-edit-at-requires
 edit-at-requires c κs =
     let a = c .before .before in
     record-within _ _ _ _ _ (sym (a .before .before .find-record .ensures) ∙ a .at .given .1)
 
-same-length : tie.Need-same-length
-same-length c = search needs
-
 returns : tie.Need-returns
 returns c =
     let a = c .before .before in
     edit-refused _ _ _ _ _ _ _ (c .answer .ensures) (sym (a .before .before .find-record .ensures) ∙ a .number .given .1)
-
-same-length-2 : tie.Need-same-length-2
-same-length-2 c = search needs
 
 returns-2 : tie.Need-returns-2
 returns-2 c =
@@ -44,12 +26,12 @@ pub edit-record-spec : {M : Type 1} → statement M
 edit-record-spec =
     tie.close
     (tie.spec
-    find-record-requires
-    enum-known-number
-    answer-requires
-    enum-known-at
+    (λ c κs. search needs)
+    (λ c. search needs)
+    (λ c κs. search needs)
+    (λ c. search needs)
     edit-at-requires
-    same-length
+    (λ c. search needs)
     returns
-    same-length-2
+    (λ c. search needs)
     returns-2)

@@ -11,9 +11,6 @@ use Rattle.write_field.proofs.set_field.Tie as tie
 returns : tie.Need-returns
 returns c = sym (set-over _ _ _ (c .if1 .taken))
 
-edition-of-requires : tie.Need-edition-of-requires
-edition-of-requires c κs = search needs
-
 is-out-requires : tie.Need-is-out-requires
 is-out-requires c κs = rw (c .edition-of .ensures) (omega arith)
 
@@ -21,15 +18,6 @@ returns-2 : tie.Need-returns-2
 returns-2 c =
     let a = c .before .before .before .before .args in
     sym (set-out (a .r) (a .index) (a .value) (omega arith) (sym (rw (c .before .before .edition-of .ensures) at (c .before .is-out .ensures)) ∙ c .if2 .taken))
-
-bytes-of-requires : tie.Need-bytes-of-requires
-bytes-of-requires c κs = search needs
-
-array-write-b : tie.Need-array-write-b
-array-write-b c = search needs
-
-slice-aggregate-record-of : tie.Need-slice-aggregate-record-of
-slice-aggregate-record-of c = search needs
 
 record-of-requires : tie.Need-record-of-requires
 record-of-requires c κs =
@@ -49,11 +37,11 @@ set-field-spec =
     tie.close
     (tie.spec
     returns
-    edition-of-requires
+    (λ c κs. search needs)
     is-out-requires
     returns-2
-    bytes-of-requires
-    array-write-b
-    slice-aggregate-record-of
+    (λ c κs. search needs)
+    (λ c. search needs)
+    (λ c. search needs)
     record-of-requires
     returns-3)

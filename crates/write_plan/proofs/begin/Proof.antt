@@ -6,11 +6,8 @@ use borrow.Author.Needs.{needs}
 use Rattle.write_plan.proofs.begin.Statement.{statement}
 use Rattle.write_plan.proofs.begin.Tie as tie
 
-first-checked-requires : tie.Need-first-checked-requires
-first-checked-requires c κs = search needs
-
 returns : tie.Need-returns
 returns c = ap {B = Taken} (λ (x : Checked). record { checked = x; cntts = noCntts }) (c .first-checked .ensures)
 
 pub begin-spec : {M : Type 1} → statement M
-begin-spec = tie.close (tie.spec first-checked-requires returns)
+begin-spec = tie.close (tie.spec (λ c κs. search needs) returns)

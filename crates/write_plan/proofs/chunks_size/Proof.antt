@@ -7,9 +7,6 @@ use Rattle.write_plan.proofs.chunks_size.Tie as tie
 enum-told : tie.Need-enum-told
 enum-told c = search needs
 
-enum-told-2 : tie.Need-enum-told-2
-enum-told-2 c = search needs
-
 returns : tie.Need-returns
 unfolding chunksSize
 returns c = sym (ap chunksSize (c .enum-told .given .1))
@@ -19,4 +16,4 @@ unfolding chunksSize
 returns-2 c = sym (ap chunksSize (c .enum-told2 .given .1))
 
 pub chunks-size-spec : {M : Type 1} → statement M
-chunks-size-spec = tie.close (tie.spec enum-told enum-told-2 returns returns-2)
+chunks-size-spec = tie.close (tie.spec enum-told (λ c. search needs) returns returns-2)

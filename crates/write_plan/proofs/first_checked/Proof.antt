@@ -5,23 +5,11 @@ use borrow.Author.Needs.{needs}
 use Rattle.write_plan.proofs.first_checked.Statement.{statement}
 use Rattle.write_plan.proofs.first_checked.Tie as tie
 
-refused-at-requires : tie.Need-refused-at-requires
-refused-at-requires c κs = search needs
-
 returns : tie.Need-returns
 returns c = c .refused-at .ensures ∙ sym (begun-many _ _ _ (c .before .if1 .taken))
 
-is-sound-text-requires : tie.Need-is-sound-text-requires
-is-sound-text-requires c κs = search needs
-
-refused-at-requires-2 : tie.Need-refused-at-requires-2
-refused-at-requires-2 c κs = search needs
-
 returns-2 : tie.Need-returns-2
 returns-2 c = c .refused-at2 .ensures ∙ sym (begun-bad _ _ _ (c .before .before .before .if1 .left) (sym (c .before .before .is-sound-text .ensures) ∙ not-true _ (c .before .if2 .taken)))
-
-add-t7 : tie.Need-add-t7
-add-t7 c = search needs
 
 returns-3 : tie.Need-returns-3
 returns-3 c = sym (begun-sound _ _ _ (c .before .before .if1 .left) (sym (c .before .is-sound-text .ensures) ∙ not-false _ (c .if2 .left)))
@@ -30,10 +18,10 @@ pub first-checked-spec : {M : Type 1} → statement M
 first-checked-spec =
     tie.close
     (tie.spec
-    refused-at-requires
+    (λ c κs. search needs)
     returns
-    is-sound-text-requires
-    refused-at-requires-2
+    (λ c κs. search needs)
+    (λ c κs. search needs)
     returns-2
-    add-t7
+    (λ c. search needs)
     returns-3)

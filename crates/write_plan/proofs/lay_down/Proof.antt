@@ -6,21 +6,6 @@ use Rattle.write_plan.proofs.lay_down.Tie as tie
 enum-told : tie.Need-enum-told
 enum-told c = search needs
 
-enum-known-second : tie.Need-enum-known-second
-enum-known-second c = search needs
-
-mul-at : tie.Need-mul-at
-mul-at c = search needs
-
-element-write-cntts : tie.Need-element-write-cntts
-element-write-cntts c = search needs
-
-add-cntts : tie.Need-add-cntts
-add-cntts c = search needs
-
-element-write-cntts-2 : tie.Need-element-write-cntts-2
-element-write-cntts-2 c = search needs
-
 returns : tie.Need-returns
 returns c = down-none _ _ _ _ (c .enum-told .given .1)
 
@@ -35,11 +20,11 @@ lay-down-spec =
     tie.close
     (tie.spec
     enum-told
-    enum-known-second
-    mul-at
-    element-write-cntts
-    add-cntts
-    element-write-cntts-2
+    (λ c. search needs)
+    (λ c. search needs)
+    (λ c. search needs)
+    (λ c. search needs)
+    (λ c. search needs)
     returns
     returns-2
     returns-3)

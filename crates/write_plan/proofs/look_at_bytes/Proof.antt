@@ -10,25 +10,10 @@ use Rattle.write_plan.proofs.look_at_bytes.Tie as tie
 returns : tie.Need-returns
 returns c = (sym (looked-stays _ _ _ (c .if1 .taken)), after-stays _ _ _ _ (c .if1 .taken))
 
-first-bad-of-requires : tie.Need-first-bad-of-requires
-first-bad-of-requires c κs = search needs
-
-mul-refused-at : tie.Need-mul-refused-at
-mul-refused-at c = search needs
-
-add-refused-at : tie.Need-add-refused-at
-add-refused-at c = search needs
-
-refused-at-requires : tie.Need-refused-at-requires
-refused-at-requires c κs = search needs
-
 returns-2 : tie.Need-returns-2
 returns-2 c =
     let e = looked-bad _ _ _ (c .before .before .before .if1 .left) _ (c .before .before .first-bad-of .ensures) (c .before .if2 .taken) in
     (c .refused-at .ensures ∙ sym e, after-refused _ _ _ _ _ _ (omega arith) e)
-
-shared-slice-read-channel : tie.Need-shared-slice-read-channel
-shared-slice-read-channel c = search needs
 
 cast-channel : tie.Need-cast-channel
 cast-channel c = omega (arith, c .shared-slice-known2 .given 0)
@@ -37,27 +22,12 @@ shr-if3 : tie.Need-shr-if3
 unfolding channelOf recordOf
 shr-if3 c = channel-shift _ _ (c .before .before .before .first-bad-of .ensures) (c .before .before .if2 .left)
 
-mul-refused-at-2 : tie.Need-mul-refused-at-2
-mul-refused-at-2 c = search needs
-
-refused-at-requires-2 : tie.Need-refused-at-requires-2
-refused-at-requires-2 c κs = search needs
-
 returns-3 : tie.Need-returns-3
 unfolding channelOf recordOf
 returns-3 c =
     let o = c .before .before .before .before in
     let e = looked-again _ _ _ (o .before .before .if1 .left) _ (o .before .first-bad-of .ensures) (o .if2 .left) (bit-set _ _ (c .before .if3 .taken)) in
     (c .refused-at2 .ensures ∙ sym e, after-refused _ _ _ _ _ _ (omega arith) e)
-
-shared-slice-read-lay-down : tie.Need-shared-slice-read-lay-down
-shared-slice-read-lay-down c = search needs
-
-lay-down-requires : tie.Need-lay-down-requires
-lay-down-requires c κs = search needs
-
-chunks-size-requires : tie.Need-chunks-size-requires
-chunks-size-requires c κs = search needs
 
 add-t21 : tie.Need-add-t21
 add-t21 c =
@@ -69,9 +39,6 @@ unfolding channelOf recordOf
 shl-t14 c =
     let e = c .before .before .before .before .before .before .before .before in
     channel-shift _ _ (e .before .first-bad-of .ensures) (e .if2 .left)
-
-cntt-count-requires : tie.Need-cntt-count-requires
-cntt-count-requires c κs = search needs
 
 add-t23 : tie.Need-add-t23
 add-t23 c =
@@ -96,22 +63,22 @@ look-at-bytes-spec =
     tie.close
     (tie.spec
     returns
-    first-bad-of-requires
-    mul-refused-at
-    add-refused-at
-    refused-at-requires
+    (λ c κs. search needs)
+    (λ c. search needs)
+    (λ c. search needs)
+    (λ c κs. search needs)
     returns-2
-    shared-slice-read-channel
+    (λ c. search needs)
     cast-channel
     shr-if3
-    mul-refused-at-2
-    refused-at-requires-2
+    (λ c. search needs)
+    (λ c κs. search needs)
     returns-3
-    shared-slice-read-lay-down
-    lay-down-requires
-    chunks-size-requires
+    (λ c. search needs)
+    (λ c κs. search needs)
+    (λ c κs. search needs)
     add-t21
     shl-t14
-    cntt-count-requires
+    (λ c κs. search needs)
     add-t23
     returns-4)

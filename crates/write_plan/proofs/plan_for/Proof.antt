@@ -4,14 +4,8 @@ use borrow.Author.Needs.{needs}
 use Rattle.write_plan.proofs.plan_for.Statement.{statement}
 use Rattle.write_plan.proofs.plan_for.Tie as tie
 
-no-plan-requires : tie.Need-no-plan-requires
-no-plan-requires c κs = search needs
-
 returns : tie.Need-returns
 returns c = c .no-plan .ensures ∙ sym (planned-not _ _ (c .before .if1 .taken))
-
-no-plan-requires-2 : tie.Need-no-plan-requires-2
-no-plan-requires-2 c κs = search needs
 
 returns-2 : tie.Need-returns-2
 returns-2 c = c .no-plan2 .ensures ∙ sym (planned-short _ _ (c .before .before .before .if1 .left) (c .before .if2 .taken))
@@ -21,4 +15,4 @@ returns-3 c = sym (planned-fits _ _ (c .before .before .if1 .left) (c .if2 .left
 
 pub plan-for-spec : {M : Type 1} → statement M
 plan-for-spec =
-    tie.close (tie.spec no-plan-requires returns no-plan-requires-2 returns-2 returns-3)
+    tie.close (tie.spec (λ c κs. search needs) returns (λ c κs. search needs) returns-2 returns-3)

@@ -5,9 +5,6 @@ use Rattle.layout.specs.declared.answer.Located.{Located}
 use Rattle.c_export.proofs.reading.casm_find.Statement.{statement}
 use Rattle.c_export.proofs.reading.casm_find.Tie as tie
 
-find-casm-requires : tie.Need-find-casm-requires
-find-casm-requires c κs = search needs
-
 returns : tie.Need-returns
 returns c =
     let x = c .find-casm .result in
@@ -15,4 +12,4 @@ returns c =
     crossed ∙ c .find-casm .ensures
 
 pub casm-find-spec : {M : Type 1} → statement M
-casm-find-spec = tie.close (tie.spec find-casm-requires returns)
+casm-find-spec = tie.close (tie.spec (λ c κs. search needs) returns)

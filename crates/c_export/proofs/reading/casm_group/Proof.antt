@@ -4,11 +4,8 @@ use Rattle.c_export.proofs.Crossed.{group-told}
 use Rattle.c_export.proofs.reading.casm_group.Statement.{statement}
 use Rattle.c_export.proofs.reading.casm_group.Tie as tie
 
-find-group-requires : tie.Need-find-group-requires
-find-group-requires c κs = search needs
-
 returns : tie.Need-returns
 returns c = group-told _ _ _ (c .before .find-group .ensures)
 
 pub casm-group-spec : {M : Type 1} → statement M
-casm-group-spec = tie.close (tie.spec find-group-requires returns)
+casm-group-spec = tie.close (tie.spec (λ c κs. search needs) returns)

@@ -4,14 +4,8 @@ use borrow.Author.Needs.{needs}
 use Rattle.c_row.proofs.row.row_of.Statement.{statement}
 use Rattle.c_row.proofs.row.row_of.Tie as tie
 
-bytes-of-requires : tie.Need-bytes-of-requires
-bytes-of-requires c κs = search needs
-
 enum-told : tie.Need-enum-told
 enum-told c = search needs
-
-enum-known-second : tie.Need-enum-known-second
-enum-known-second c = search needs
 
 returns : tie.Need-returns
 returns c = row-absent _ _ (c .before .before .bytes-of .ensures) (c .enum-told .given .1)
@@ -20,4 +14,4 @@ returns-2 : tie.Need-returns-2
 returns-2 c = row-there _ _ _ (c .before .before .before .bytes-of .ensures) (c .before .second .given .1)
 
 pub row-of-spec : {M : Type 1} → statement M
-row-of-spec = tie.close (tie.spec bytes-of-requires enum-told enum-known-second returns returns-2)
+row-of-spec = tie.close (tie.spec (λ c κs. search needs) enum-told (λ c. search needs) returns returns-2)

@@ -8,24 +8,12 @@ use borrow.Author.Needs.{needs}
 use Rattle.list_spell.proofs.put.put_number.Statement.{statement}
 use Rattle.list_spell.proofs.put.put_number.Tie as tie
 
-decimal-requires : tie.Need-decimal-requires
-decimal-requires c κs = search needs
-
-array-share-prefix-digits : tie.Need-array-share-prefix-digits
-array-share-prefix-digits c = search needs
-
-slice-aggregate-put-bytes : tie.Need-slice-aggregate-put-bytes
-slice-aggregate-put-bytes c = search needs
-
 put-bytes-requires : tie.Need-put-bytes-requires
 put-bytes-requires c κs =
     let d = c .before .before in
     let start = d .before .before .before in
     let e = decimal-made (start .args .n) _ _ (d .decimal .ensures .1 .0) (d .decimal .ensures .1 .1) in
     omega (arith, start .pre, ap length e, decimal-most (start .args .n) 20 (omega arith) (omega (arith, start .fits .n)))
-
-same-length : tie.Need-same-length
-same-length c = search needs
 
 returns : tie.Need-returns
 returns c =
@@ -39,9 +27,9 @@ pub put-number-spec : {M : Type 1} → statement M
 put-number-spec =
     tie.close
     (tie.spec
-    decimal-requires
-    array-share-prefix-digits
-    slice-aggregate-put-bytes
+    (λ c κs. search needs)
+    (λ c. search needs)
+    (λ c. search needs)
     put-bytes-requires
-    same-length
+    (λ c. search needs)
     returns)

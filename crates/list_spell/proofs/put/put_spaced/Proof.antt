@@ -7,18 +7,6 @@ use borrow.Author.Needs.{needs}
 use Rattle.list_spell.proofs.put.put_spaced.Statement.{statement}
 use Rattle.list_spell.proofs.put.put_spaced.Tie as tie
 
-slice-aggregate-put-bytes : tie.Need-slice-aggregate-put-bytes
-slice-aggregate-put-bytes c = search needs
-
-put-bytes-requires : tie.Need-put-bytes-requires
-put-bytes-requires c κs = search needs
-
-put-number-requires : tie.Need-put-number-requires
-put-number-requires c κs = search needs
-
-same-length : tie.Need-same-length
-same-length c = search needs
-
 returns : tie.Need-returns
 unfolding spaced
 returns c =
@@ -30,4 +18,4 @@ returns c =
 pub put-spaced-spec : {M : Type 1} → statement M
 put-spaced-spec =
     tie.close
-    (tie.spec slice-aggregate-put-bytes put-bytes-requires put-number-requires same-length returns)
+    (tie.spec (λ c. search needs) (λ c κs. search needs) (λ c κs. search needs) (λ c. search needs) returns)

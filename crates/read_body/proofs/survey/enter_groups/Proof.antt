@@ -35,9 +35,6 @@ loop-holds c =
 group-turn-requires : tie.Need-group-turn-requires Inv-loop μ-loop
 group-turn-requires c κs = let l = c .before .before .loop in (l .inv .1 .0, (l .inv .1 .1 .0, (l .inv .0, (l .inv .1 .1 .1 .0, l .inv .1 .1 .1 .1 .1 .0))))
 
-enum-known-turn : tie.Need-enum-known-turn Inv-loop μ-loop
-enum-known-turn c = search needs
-
 returns-2 : tie.Need-returns-2 Inv-loop μ-loop
 returns-2 c =
     let g = c .before .before .before in
@@ -56,12 +53,6 @@ returns-3 c =
       known = λ n e. ended-known _ _ _ _ _ n (l .inv .0) (l .inv .1 .1 .1 .0) (l .inv .1 .1 .1 .1 .0) e;
     }
 
-enum-told-2 : tie.Need-enum-told-2 Inv-loop μ-loop
-enum-told-2 c = search needs
-
-mul-places : tie.Need-mul-places Inv-loop μ-loop
-mul-places c = search needs
-
 element-write-places : tie.Need-element-write-places Inv-loop μ-loop
 element-write-places c =
     let g = c .before .before in
@@ -76,9 +67,6 @@ cast-records c =
     let a = g .before .before .before .before .before .before .args in
     let small = counts-small (a .s .now) _ _ _ (g .group-turn .ensures .sound (e .enum-told2 .given .1)) (omega arith) in
     omega (arith, small .0)
-
-mul-records : tie.Need-mul-records Inv-loop μ-loop
-mul-records c = search needs
 
 element-write-records : tie.Need-element-write-records Inv-loop μ-loop
 element-write-records c =
@@ -96,9 +84,6 @@ cast-seconds c =
     let small = counts-small (a .s .now) _ _ _ (g .group-turn .ensures .sound (e .enum-told2 .given .1)) (omega arith) in
     omega (arith, small .1)
 
-mul-seconds : tie.Need-mul-seconds Inv-loop μ-loop
-mul-seconds c = search needs
-
 element-write-seconds : tie.Need-element-write-seconds Inv-loop μ-loop
 element-write-seconds c =
     let e = c .before .before in
@@ -115,9 +100,6 @@ add-at c =
     let more = more-within _ _ _ _ _ (g .group-turn .ensures) (l .inv .1 .0) (l .inv .1 .1 .0) (e .enum-told2 .given .1) in
     omega (arith, more .1 .0)
 
-add-word-at : tie.Need-add-word-at Inv-loop μ-loop
-add-word-at c = search needs
-
 word-at-requires : tie.Need-word-at-requires Inv-loop μ-loop
 word-at-requires c κs =
     let e = c .before .before in
@@ -133,9 +115,6 @@ add-at-2 c =
     let l = g .before .before .before .loop in
     let more = more-within _ _ _ _ _ (g .group-turn .ensures) (l .inv .1 .0) (l .inv .1 .1 .0) (e .enum-told2 .given .1) in
     omega (arith, more .1 .0, c .word-at .ensures .0)
-
-add-n : tie.Need-add-n Inv-loop μ-loop
-add-n c = search needs
 
 loop-less : tie.Need-loop-less Inv-loop μ-loop
 loop-less c =
@@ -180,23 +159,23 @@ enter-groups-spec =
     returns
     loop-holds
     group-turn-requires
-    enum-known-turn
+    (λ c. search needs)
     returns-2
     enum-told
     returns-3
-    enum-told-2
-    mul-places
+    (λ c. search needs)
+    (λ c. search needs)
     element-write-places
     cast-records
-    mul-records
+    (λ c. search needs)
     element-write-records
     cast-seconds
-    mul-seconds
+    (λ c. search needs)
     element-write-seconds
     add-at
-    add-word-at
+    (λ c. search needs)
     word-at-requires
     add-at-2
-    add-n
+    (λ c. search needs)
     loop-less
     loop-again)

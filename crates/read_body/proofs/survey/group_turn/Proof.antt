@@ -6,47 +6,23 @@ use borrow.Author.Needs.{needs}
 use Rattle.read_body.proofs.survey.group_turn.Statement.{statement}
 use Rattle.read_body.proofs.survey.group_turn.Tie as tie
 
-ending-requires : tie.Need-ending-requires
-ending-requires c κs = search needs
-
 returns : tie.Need-returns
 returns c = turned-end _ _ _ (c .before .before .before .pre .0) _ _ (c .before .if1 .taken) (c .ending .ensures)
-
-head-fault-requires : tie.Need-head-fault-requires
-head-fault-requires c κs = search needs
-
-ending-requires-2 : tie.Need-ending-requires-2
-ending-requires-2 c κs = search needs
 
 returns-2 : tie.Need-returns-2
 returns-2 c =
     let f = c .before .before in
     turned-head _ _ _ (f .before .before .before .pre .0) _ _ (f .before .if1 .left) _ (f .head-fault .ensures) (c .before .if2 .taken) (c .ending2 .ensures)
 
-ending-requires-3 : tie.Need-ending-requires-3
-ending-requires-3 c κs = search needs
-
 returns-3 : tie.Need-returns-3
 returns-3 c =
     let f = c .before .before .before in
     turned-many _ _ _ (f .before .before .before .pre .0) _ _ (f .before .if1 .left) _ (f .head-fault .ensures) (c .before .before .if2 .left) (omega arith) (c .ending3 .ensures)
 
-sub-judge-headed : tie.Need-sub-judge-headed
-sub-judge-headed c = search needs
-
-part-judge-headed-start : tie.Need-part-judge-headed-start
-part-judge-headed-start c = search needs
-
-part-judge-headed-end : tie.Need-part-judge-headed-end
-part-judge-headed-end c = search needs
-
 judge-headed-requires : tie.Need-judge-headed-requires
 judge-headed-requires c κs =
     let f = c .before .before .before in
     headed-there _ _ (f .before .before .before .pre .1 .0) _ (f .head-fault .ensures) (c .before .before .if2 .left)
-
-enum-known-number : tie.Need-enum-known-number
-enum-known-number c = search needs
 
 add-t22 : tie.Need-add-t22
 add-t22 c =
@@ -55,21 +31,12 @@ add-t22 c =
     let g = c .before .number .given in
     omega (arith, place-within (a .args .s .now) (a .args .at) (a .pre .1 .0) (g .0 .0) (g .0 .1 .0) (sym (j .judge-headed .ensures) ∙ g .1))
 
-ending-requires-4 : tie.Need-ending-requires-4
-ending-requires-4 c κs = search needs
-
-enum-known-text : tie.Need-enum-known-text
-enum-known-text c = search needs
-
 is-named-before-requires : tie.Need-is-named-before-requires
 is-named-before-requires c κs =
     let j = c .before .before .before .before in
     let a = j .before .before .before .before .before .before .before in
     let is = sym (j .judge-headed .ensures) ∙ c .before .before .text .given .1 in
     (omega arith, (a .pre .1 .1 .1 .0, (a .pre .1 .1 .1 .1, text-is _ _ (a .pre .1 .0) _ _ _ _ is)))
-
-ending-requires-5 : tie.Need-ending-requires-5
-ending-requires-5 c κs = search needs
 
 returns-4 : tie.Need-returns-4
 returns-4 c =
@@ -101,23 +68,23 @@ pub group-turn-spec : {M : Type 1} → statement M
 group-turn-spec =
     tie.close
     (tie.spec
-    ending-requires
+    (λ c κs. search needs)
     returns
-    head-fault-requires
-    ending-requires-2
+    (λ c κs. search needs)
+    (λ c κs. search needs)
     returns-2
-    ending-requires-3
+    (λ c κs. search needs)
     returns-3
-    sub-judge-headed
-    part-judge-headed-start
-    part-judge-headed-end
+    (λ c. search needs)
+    (λ c. search needs)
+    (λ c. search needs)
     judge-headed-requires
-    enum-known-number
+    (λ c. search needs)
     add-t22
-    ending-requires-4
-    enum-known-text
+    (λ c κs. search needs)
+    (λ c. search needs)
     is-named-before-requires
-    ending-requires-5
+    (λ c κs. search needs)
     returns-4
     returns-5
     returns-6)

@@ -5,15 +5,6 @@ use borrow.Author.Needs.{needs}
 use Rattle.read_find.proofs.look.find_channel.Statement.{statement}
 use Rattle.read_find.proofs.look.find_channel.Tie as tie
 
-find-record-requires : tie.Need-find-record-requires
-find-record-requires c κs = search needs
-
-enum-known-number : tie.Need-enum-known-number
-enum-known-number c = search needs
-
-enum-known-row : tie.Need-enum-known-row
-enum-known-row c = search needs
-
 returns : tie.Need-returns
 returns c = channel-no _ _ _ _ _ (sym (c .before .before .before .find-record .ensures) ∙ c .before .number .given .1)
 
@@ -22,4 +13,4 @@ returns-2 c = channel-at _ _ _ _ _ (sym (c .before .before .before .find-record 
 
 pub find-channel-spec : {M : Type 1} → statement M
 find-channel-spec =
-    tie.close (tie.spec find-record-requires enum-known-number enum-known-row returns returns-2)
+    tie.close (tie.spec (λ c κs. search needs) (λ c. search needs) (λ c. search needs) returns returns-2)

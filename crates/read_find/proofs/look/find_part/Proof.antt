@@ -5,35 +5,26 @@ use borrow.Author.Needs.{needs}
 use Rattle.read_find.proofs.look.find_part.Statement.{statement}
 use Rattle.read_find.proofs.look.find_part.Tie as tie
 
-find-part-requires : tie.Need-find-part-requires
-find-part-requires c κs = search needs
-
-enum-known-number : tie.Need-enum-known-number
-enum-known-number c = search needs
-
 enum-told : tie.Need-enum-told
 enum-told c = search needs
 
-enum-known-k : tie.Need-enum-known-k
-enum-known-k c = search needs
-
 returns : tie.Need-returns
-returns c = part-no _ _ _ _ (part-refused _ _ _ _ (sym (c .before .before .before .find-part .ensures) ∙ c .before .number .given .1))
+returns c = part-no _ _ _ _ (part-refused _ _ _ _ (sym (c .before .before .before .locate-part .ensures) ∙ c .before .number .given .1))
 
 returns-2 : tie.Need-returns-2
-returns-2 c = part-no _ _ _ _ (part-missing _ _ (sym (c .before .before .find-part .ensures) ∙ c .enum-told .given .1))
+returns-2 c = part-no _ _ _ _ (part-missing _ _ (sym (c .before .before .locate-part .ensures) ∙ c .enum-told .given .1))
 
 returns-3 : tie.Need-returns-3
-returns-3 c = part-there _ _ _ _ (sym (c .before .before .before .find-part .ensures) ∙ c .before .k .given .1)
+returns-3 c = part-there _ _ _ _ (sym (c .before .before .before .locate-part .ensures) ∙ c .before .k .given .1)
 
 pub find-part-spec : {M : Type 1} → statement M
 find-part-spec =
     tie.close
     (tie.spec
-    find-part-requires
-    enum-known-number
+    (λ c κs. search needs)
+    (λ c. search needs)
     enum-told
-    enum-known-k
+    (λ c. search needs)
     returns
     returns-2
     returns-3)

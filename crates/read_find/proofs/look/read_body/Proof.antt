@@ -5,15 +5,6 @@ use borrow.Author.Needs.{needs}
 use Rattle.read_find.proofs.look.read_body.Statement.{statement}
 use Rattle.read_find.proofs.look.read_body.Tie as tie
 
-read-groups-requires : tie.Need-read-groups-requires
-read-groups-requires c κs = search needs
-
-enum-known-run : tie.Need-enum-known-run
-enum-known-run c = search needs
-
-enum-known-run-2 : tie.Need-enum-known-run-2
-enum-known-run-2 c = search needs
-
 returns : tie.Need-returns
 returns c = body-refused _ _ _ (sym (c .before .before .before .read-groups .ensures .run) ∙ c .before .run .given .1)
 
@@ -22,4 +13,4 @@ returns-2 c = body-counted _ _ (sym (c .before .before .before .read-groups .ens
 
 pub read-body-spec : {M : Type 1} → statement M
 read-body-spec =
-    tie.close (tie.spec read-groups-requires enum-known-run enum-known-run-2 returns returns-2)
+    tie.close (tie.spec (λ c κs. search needs) (λ c. search needs) (λ c. search needs) returns returns-2)

@@ -47,12 +47,6 @@ returns c =
     let l = p .before .before .loop in
     sym (l .inv .1 ∙ first-here _ _ _ (omega arith) (eq-eqb _ _ (rw (p .ctab-place .ensures) at (c .if1 .taken))))
 
-add-i : tie.Need-add-i Inv-loop μ-loop
-add-i c = search needs
-
-loop-less : tie.Need-loop-less Inv-loop μ-loop
-loop-less c = search needs
-
 loop-again : tie.Need-loop-again Inv-loop μ-loop
 unfolding ctabChannel
 loop-again c =
@@ -76,7 +70,7 @@ find-row-spec =
     add-if1
     shared-slice-read-if1
     returns
-    add-i
-    loop-less
+    (λ c. search needs)
+    (λ c. search needs)
     loop-again
     returns-2)

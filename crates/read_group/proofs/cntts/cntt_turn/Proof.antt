@@ -10,31 +10,13 @@ use borrow.Author.Needs.{needs}
 use Rattle.read_group.proofs.cntts.cntt_turn.Statement.{statement}
 use Rattle.read_group.proofs.cntts.cntt_turn.Tie as tie
 
-mul-at : tie.Need-mul-at
-mul-at c = search needs
-
-add-at : tie.Need-add-at
-add-at c = search needs
-
-mul-at-2 : tie.Need-mul-at-2
-mul-at-2 c = search needs
-
-add-at-2 : tie.Need-add-at-2
-add-at-2 c = search needs
-
 returns : tie.Need-returns
 unfolding cnttTurn
 returns c = sym (cntt-over _ _ _ _ _ _ (c .if1 .taken))
 
-head-fault-requires : tie.Need-head-fault-requires
-head-fault-requires c κs = search needs
-
 returns-2 : tie.Need-returns-2
 unfolding cnttTurn
 returns-2 c = sym (cntt-head _ _ _ _ _ _ (c .before .before .if1 .left) _ (c .before .head-fault .ensures) (c .if2 .taken))
-
-add-word-at : tie.Need-add-word-at
-add-word-at c = search needs
 
 word-at-requires : tie.Need-word-at-requires
 word-at-requires c κs = omega (arith, head-within _ _ _ _ (c .before .head-fault .ensures) (c .if2 .left))
@@ -45,16 +27,10 @@ returns-3 c =
     let d = c .before .before in
     sym (cntt-size _ _ _ _ _ _ (d .before .before .if1 .left) _ (d .before .head-fault .ensures) (d .if2 .left) (λ e. c .if3 .taken (c .before .word-at .ensures .0 ∙ e)))
 
-add-byte : tie.Need-add-byte
-add-byte c = search needs
-
 byte-requires : tie.Need-byte-requires
 byte-requires c κs =
     let d = c .before .before in
     omega (arith, head-within _ _ _ _ (d .before .head-fault .ensures) (d .if2 .left), sym (c .before .word-at .ensures .0) ∙ c .if3 .left)
-
-add-t16 : tie.Need-add-t16
-add-t16 c = search needs
 
 returns-4 : tie.Need-returns-4
 unfolding cnttTurn
@@ -64,20 +40,11 @@ returns-4 c =
     sym (cntt-channel _ _ _ _ _ _ (d .before .before .if1 .left) _ (d .before .head-fault .ensures) (d .if2 .left) (sym (e .before .word-at .ensures .0) ∙ e .if3 .left)
     (channel-over _ (rw (c .before .byte .ensures .0) at (c .if4 .taken))))
 
-add-byte-2 : tie.Need-add-byte-2
-add-byte-2 c = search needs
-
 byte-requires-2 : tie.Need-byte-requires-2
 byte-requires-2 c κs =
     let e = c .before .before in
     let d = e .before .before in
     omega (arith, head-within _ _ _ _ (d .before .head-fault .ensures) (d .if2 .left), sym (e .before .word-at .ensures .0) ∙ e .if3 .left)
-
-is-cntt-value-requires : tie.Need-is-cntt-value-requires
-is-cntt-value-requires c κs = search needs
-
-add-t18 : tie.Need-add-t18
-add-t18 c = search needs
 
 returns-5 : tie.Need-returns-5
 unfolding cnttTurn
@@ -87,21 +54,6 @@ returns-5 c =
     let d = e .before .before in
     sym (cntt-value _ _ _ _ _ _ (d .before .before .if1 .left) _ (d .before .head-fault .ensures) (d .if2 .left) (sym (e .before .word-at .ensures .0) ∙ e .if3 .left)
     (channel-in _ (rw (g .before .byte .ensures .0) at (g .if4 .left))) (rw (c .before .before .byte2 .ensures .0) at (sym (c .before .is-cntt-value .ensures) ∙ not-true _ (c .if5 .taken))))
-
-mul-order-fault : tie.Need-mul-order-fault
-mul-order-fault c = search needs
-
-element-copy-out-order-fault : tie.Need-element-copy-out-order-fault
-element-copy-out-order-fault c = search needs
-
-mul-order-fault-2 : tie.Need-mul-order-fault-2
-mul-order-fault-2 c = search needs
-
-element-copy-out-order-fault-2 : tie.Need-element-copy-out-order-fault-2
-element-copy-out-order-fault-2 c = search needs
-
-order-fault-requires : tie.Need-order-fault-requires
-order-fault-requires c κs = search needs
 
 returns-6 : tie.Need-returns-6
 unfolding cnttTurn
@@ -133,29 +85,29 @@ pub cntt-turn-spec : {M : Type 1} → statement M
 cntt-turn-spec =
     tie.close
     (tie.spec
-    mul-at
-    add-at
-    mul-at-2
-    add-at-2
+    (λ c. search needs)
+    (λ c. search needs)
+    (λ c. search needs)
+    (λ c. search needs)
     returns
-    head-fault-requires
+    (λ c κs. search needs)
     returns-2
-    add-word-at
+    (λ c. search needs)
     word-at-requires
     returns-3
-    add-byte
+    (λ c. search needs)
     byte-requires
-    add-t16
+    (λ c. search needs)
     returns-4
-    add-byte-2
+    (λ c. search needs)
     byte-requires-2
-    is-cntt-value-requires
-    add-t18
+    (λ c κs. search needs)
+    (λ c. search needs)
     returns-5
-    mul-order-fault
-    element-copy-out-order-fault
-    mul-order-fault-2
-    element-copy-out-order-fault-2
-    order-fault-requires
+    (λ c. search needs)
+    (λ c. search needs)
+    (λ c. search needs)
+    (λ c. search needs)
+    (λ c κs. search needs)
     returns-6
     returns-7)

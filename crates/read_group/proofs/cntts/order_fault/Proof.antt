@@ -12,9 +12,6 @@ returns c = sym (order-again _ _ _ (c .if1 .taken))
 returns-2 : tie.Need-returns-2
 returns-2 c = sym (order-stray _ _ _ (c .before .if1 .left) (c .if2 .taken))
 
-sub-if3 : tie.Need-sub-if3
-sub-if3 c = search needs
-
 returns-3 : tie.Need-returns-3
 returns-3 c = sym (order-before _ _ _ (c .before .before .if1 .left) (c .before .if2 .left) (omega arith))
 
@@ -22,4 +19,4 @@ returns-4 : tie.Need-returns-4
 returns-4 c = sym (order-none _ _ _ (c .before .before .if1 .left) (c .before .if2 .left) (omega arith))
 
 pub order-fault-spec : {M : Type 1} → statement M
-order-fault-spec = tie.close (tie.spec returns returns-2 sub-if3 returns-3 returns-4)
+order-fault-spec = tie.close (tie.spec returns returns-2 (λ c. search needs) returns-3 returns-4)

@@ -30,9 +30,6 @@ loop-holds c = (omega arith, (homes-start _ _ refl, (last-start _ _ _, refl)))
 cntt-turn-requires : tie.Need-cntt-turn-requires Inv-loop μ-loop
 cntt-turn-requires c κs = (c .before .loop .inv .0, (c .before .before .before .pre .1, (c .before .loop .inv .1 .0, c .before .loop .inv .1 .1 .0)))
 
-enum-known-number : tie.Need-enum-known-number Inv-loop μ-loop
-enum-known-number c = search needs
-
 returns : tie.Need-returns Inv-loop μ-loop
 returns c = sym (c .before .before .before .before .before .loop .inv .1 .1 .1 ∙ run-stop _ _ _ _ _ (omega arith) (sym (c .before .before .before .cntt-turn .ensures) ∙ c .before .number .given .1))
 
@@ -42,38 +39,11 @@ enum-told c = search needs
 returns-2 : tie.Need-returns-2 Inv-loop μ-loop
 returns-2 c = sym (c .before .before .before .before .loop .inv .1 .1 .1 ∙ run-done _ _ _ (omega arith) (sym (c .before .before .cntt-turn .ensures) ∙ c .enum-told .given .1))
 
-enum-told-2 : tie.Need-enum-told-2 Inv-loop μ-loop
-enum-told-2 c = search needs
-
-mul-byte : tie.Need-mul-byte Inv-loop μ-loop
-mul-byte c = search needs
-
-add-byte : tie.Need-add-byte Inv-loop μ-loop
-add-byte c = search needs
-
-mul-byte-2 : tie.Need-mul-byte-2 Inv-loop μ-loop
-mul-byte-2 c = search needs
-
-add-byte-2 : tie.Need-add-byte-2 Inv-loop μ-loop
-add-byte-2 c = search needs
-
-add-byte-3 : tie.Need-add-byte-3 Inv-loop μ-loop
-add-byte-3 c = search needs
-
 byte-requires : tie.Need-byte-requires Inv-loop μ-loop
 byte-requires c κs = omega (arith, cntt-fits _ _ _ _ _ _ (cntt-turn-more _ _ _ _ _ (sym (c .before .before .cntt-turn .ensures) ∙ c .enum-told2 .given .1)))
 
-add-seen : tie.Need-add-seen Inv-loop μ-loop
-add-seen c = search needs
-
-mul-seen : tie.Need-mul-seen Inv-loop μ-loop
-mul-seen c = search needs
-
 array-write-seen : tie.Need-array-write-seen Inv-loop μ-loop
 array-write-seen c = small _ _ _ _ (cntt-turn-more _ _ _ _ _ (sym (c .before .before .before .cntt-turn .ensures) ∙ c .before .enum-told2 .given .1)) _ (c .byte .ensures .0)
-
-mul-last : tie.Need-mul-last Inv-loop μ-loop
-mul-last c = search needs
 
 element-copy-out-last : tie.Need-element-copy-out-last Inv-loop μ-loop
 element-copy-out-last c = small _ _ _ _ (cntt-turn-more _ _ _ _ _ (sym (c .before .before .before .cntt-turn .ensures) ∙ c .before .enum-told2 .given .1)) _ (c .byte .ensures .0)
@@ -84,12 +54,6 @@ sub-last c =
     let d = b .before in
     let there = home-there _ _ _ _ (cntt-turn-more _ _ _ _ _ (sym (d .before .before .cntt-turn .ensures) ∙ d .enum-told2 .given .1)) _ (b .byte .ensures .0) _ (d .before .before .before .before .before .before .pre .1) in
     omega arith
-
-add-j : tie.Need-add-j Inv-loop μ-loop
-add-j c = search needs
-
-loop-less : tie.Need-loop-less Inv-loop μ-loop
-loop-less c = search needs
 
 loop-again : tie.Need-loop-again Inv-loop μ-loop
 loop-again c =
@@ -116,23 +80,23 @@ read-cntts-spec =
     μ-loop
     loop-holds
     cntt-turn-requires
-    enum-known-number
+    (λ c. search needs)
     returns
     enum-told
     returns-2
-    enum-told-2
-    mul-byte
-    add-byte
-    mul-byte-2
-    add-byte-2
-    add-byte-3
+    (λ c. search needs)
+    (λ c. search needs)
+    (λ c. search needs)
+    (λ c. search needs)
+    (λ c. search needs)
+    (λ c. search needs)
     byte-requires
-    add-seen
-    mul-seen
+    (λ c. search needs)
+    (λ c. search needs)
     array-write-seen
-    mul-last
+    (λ c. search needs)
     element-copy-out-last
     sub-last
-    add-j
-    loop-less
+    (λ c. search needs)
+    (λ c. search needs)
     loop-again)

@@ -9,20 +9,8 @@ use borrow.Author.Needs.{needs}
 use Rattle.read_group.proofs.ctabs.ctab_turn.Statement.{statement}
 use Rattle.read_group.proofs.ctabs.ctab_turn.Tie as tie
 
-size-of-requires : tie.Need-size-of-requires
-size-of-requires c κs = search needs
-
-ctab-place-requires : tie.Need-ctab-place-requires
-ctab-place-requires c κs = search needs
-
-is-over-requires : tie.Need-is-over-requires
-is-over-requires c κs = search needs
-
 returns : tie.Need-returns
 returns c = turn-at _ _ _ _ _ _ (c .before .before .ctab-place .ensures) (ctab-over _ _ _ _ _ (sym (c .before .is-over .ensures) ∙ c .if1 .taken))
-
-tag-of-requires : tie.Need-tag-of-requires
-tag-of-requires c κs = search needs
 
 head-fault-requires : tie.Need-head-fault-requires
 head-fault-requires c κs = (search needs, c .tag-of .ensures .1)
@@ -33,9 +21,6 @@ returns-2 c =
     let o = h .before .before in
     turn-at _ _ _ _ _ _ (o .before .before .ctab-place .ensures)
     (ctab-head _ _ _ _ _ (sym (o .before .is-over .ensures) ∙ o .if1 .left) _ _ (h .before .tag-of .ensures .0) (h .head-fault .ensures) (c .if2 .taken))
-
-add-word-at : tie.Need-add-word-at
-add-word-at c = search needs
 
 word-at-requires : tie.Need-word-at-requires
 word-at-requires c κs = omega (arith, head-within _ _ _ _ (c .before .head-fault .ensures) (c .if2 .left))
@@ -49,20 +34,11 @@ returns-3 c =
     (ctab-size _ _ _ _ _ (sym (o .before .is-over .ensures) ∙ o .if1 .left) _ _ (h .before .tag-of .ensures .0) (h .head-fault .ensures) (z .if2 .left) _ (o .before .before .before .size-of .ensures)
     (λ e. c .if3 .taken (c .before .word-at .ensures .0 ∙ e)))
 
-add-first-out : tie.Need-add-first-out
-add-first-out c = search needs
-
 first-out-requires : tie.Need-first-out-requires
 first-out-requires c κs =
     let z = c .before .before in
     let o = z .before .before .before in
     (omega (arith, o .before .before .before .size-of .ensures), omega (arith, head-within _ _ _ _ (z .before .head-fault .ensures) (z .if2 .left), sym (c .before .word-at .ensures .0) ∙ c .if3 .left))
-
-add-t15 : tie.Need-add-t15
-add-t15 c = search needs
-
-add-t16 : tie.Need-add-t16
-add-t16 c = search needs
 
 returns-4 : tie.Need-returns-4
 returns-4 c =
@@ -74,18 +50,12 @@ returns-4 c =
     (ctab-out _ _ _ _ _ (sym (o .before .is-over .ensures) ∙ o .if1 .left) _ _ (h .before .tag-of .ensures .0) (h .head-fault .ensures) (z .if2 .left) _ (o .before .before .before .size-of .ensures)
     (sym (l .before .word-at .ensures .0) ∙ l .if3 .left) _ (c .before .first-out .ensures) (omega arith))
 
-add-byte : tie.Need-add-byte
-add-byte c = search needs
-
 byte-requires : tie.Need-byte-requires
 byte-requires c κs =
     let l = c .before .before in
     let z = l .before .before in
     let o = z .before .before .before in
     omega (arith, head-within _ _ _ _ (z .before .head-fault .ensures) (z .if2 .left), sym (l .before .word-at .ensures .0) ∙ l .if3 .left, size-some (o .before .before .before .before .before .args .edition) _ (o .before .before .before .size-of .ensures))
-
-mul-if5 : tie.Need-mul-if5
-mul-if5 c = search needs
 
 element-copy-out-if5 : tie.Need-element-copy-out-if5
 element-copy-out-if5 c =
@@ -125,24 +95,24 @@ pub ctab-turn-spec : {M : Type 1} → statement M
 ctab-turn-spec =
     tie.close
     (tie.spec
-    size-of-requires
-    ctab-place-requires
-    is-over-requires
+    (λ c κs. search needs)
+    (λ c κs. search needs)
+    (λ c κs. search needs)
     returns
-    tag-of-requires
+    (λ c κs. search needs)
     head-fault-requires
     returns-2
-    add-word-at
+    (λ c. search needs)
     word-at-requires
     returns-3
-    add-first-out
+    (λ c. search needs)
     first-out-requires
-    add-t15
-    add-t16
+    (λ c. search needs)
+    (λ c. search needs)
     returns-4
-    add-byte
+    (λ c. search needs)
     byte-requires
-    mul-if5
+    (λ c. search needs)
     element-copy-out-if5
     returns-5
     returns-6)

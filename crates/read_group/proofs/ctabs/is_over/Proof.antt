@@ -10,18 +10,12 @@ use Rattle.read_group.proofs.ctabs.is_over.Tie as tie
 returns : tie.Need-returns
 returns c = sym (over-end _ _ (c .if1 .taken))
 
-sub-if2 : tie.Need-sub-if2
-sub-if2 c = search needs
-
 returns-2 : tie.Need-returns-2
 returns-2 c = sym (over-cut _ _ (c .before .if1 .left) (omega arith))
-
-is-tagged-requires : tie.Need-is-tagged-requires
-is-tagged-requires c κs = search needs
 
 returns-3 : tie.Need-returns-3
 unfolding four
 returns-3 c = c .is-tagged .ensures ∙ sym (over-tag _ _ (c .before .before .if1 .left) (omega arith))
 
 pub is-over-spec : {M : Type 1} → statement M
-is-over-spec = tie.close (tie.spec returns sub-if2 returns-2 is-tagged-requires returns-3)
+is-over-spec = tie.close (tie.spec returns (λ c. search needs) returns-2 (λ c κs. search needs) returns-3)

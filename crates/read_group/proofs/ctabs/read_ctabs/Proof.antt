@@ -25,12 +25,6 @@ loop-holds : tie.Need-loop-holds Inv-loop μ-loop
 unfolding ctabsOf
 loop-holds c = (omega arith, (homes-start _ _ refl, refl))
 
-ctab-turn-requires : tie.Need-ctab-turn-requires Inv-loop μ-loop
-ctab-turn-requires c κs = search needs
-
-enum-known-number : tie.Need-enum-known-number Inv-loop μ-loop
-enum-known-number c = search needs
-
 returns : tie.Need-returns Inv-loop μ-loop
 returns c =
     let l = c .before .before .before .before .before .loop in
@@ -44,36 +38,15 @@ returns-2 c =
     let l = c .before .before .before .before .loop in
     record { run = sym (l .inv .1 .1 ∙ run-done _ _ _ (omega arith) (sym (c .before .before .ctab-turn .ensures) ∙ c .enum-told .given .1)); homes = λ m e. ended-homes _ _ _ _ _ m (l .inv .0) (l .inv .1 .0) e }
 
-enum-told-2 : tie.Need-enum-told-2 Inv-loop μ-loop
-enum-told-2 c = search needs
-
-ctab-place-requires : tie.Need-ctab-place-requires Inv-loop μ-loop
-ctab-place-requires c κs = search needs
-
-add-byte : tie.Need-add-byte Inv-loop μ-loop
-add-byte c = search needs
-
 byte-requires : tie.Need-byte-requires Inv-loop μ-loop
 byte-requires c κs =
     let t = c .before in
     omega (arith, ctab-byte _ _ _ _ _ (turn-more _ _ _ _ (sym (t .before .before .ctab-turn .ensures) ∙ t .enum-told2 .given .1)), c .ctab-place .ensures)
 
-add-homes : tie.Need-add-homes Inv-loop μ-loop
-add-homes c = search needs
-
-mul-homes : tie.Need-mul-homes Inv-loop μ-loop
-mul-homes c = search needs
-
 array-write-homes : tie.Need-array-write-homes Inv-loop μ-loop
 array-write-homes c =
     let t = c .before .before in
     rw (c .byte .ensures .0, c .before .ctab-place .ensures) (channel-small _ _ _ ((turn-more _ _ _ _ (sym (t .before .before .ctab-turn .ensures) ∙ t .enum-told2 .given .1)) .inside))
-
-add-n : tie.Need-add-n Inv-loop μ-loop
-add-n c = search needs
-
-loop-less : tie.Need-loop-less Inv-loop μ-loop
-loop-less c = search needs
 
 loop-again : tie.Need-loop-again Inv-loop μ-loop
 loop-again c =
@@ -92,18 +65,18 @@ read-ctabs-spec =
     Inv-loop
     μ-loop
     loop-holds
-    ctab-turn-requires
-    enum-known-number
+    (λ c κs. search needs)
+    (λ c. search needs)
     returns
     enum-told
     returns-2
-    enum-told-2
-    ctab-place-requires
-    add-byte
+    (λ c. search needs)
+    (λ c κs. search needs)
+    (λ c. search needs)
     byte-requires
-    add-homes
-    mul-homes
+    (λ c. search needs)
+    (λ c. search needs)
     array-write-homes
-    add-n
-    loop-less
+    (λ c. search needs)
+    (λ c. search needs)
     loop-again)

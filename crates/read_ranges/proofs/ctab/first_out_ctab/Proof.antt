@@ -21,35 +21,17 @@ loop-holds : tie.Need-loop-holds Inv-loop μ-loop
 unfolding firstOut
 loop-holds c = (search needs, refl)
 
-add-b : tie.Need-add-b Inv-loop μ-loop
-add-b c = search needs
-
-shared-slice-read-b : tie.Need-shared-slice-read-b Inv-loop μ-loop
-shared-slice-read-b c = search needs
-
-array-read-if1 : tie.Need-array-read-if1 Inv-loop μ-loop
-array-read-if1 c = search needs
-
 returns : tie.Need-returns Inv-loop μ-loop
 unfolding lows highs ranges commonRanges setRanges
 returns c =
     let l = c .before .before .before .loop in
     sym (l .inv .1 ∙ first-here _ _ _ (omega arith) (at-place First _ _ _ _ _ refl (out-below First _ _ _ (omega arith))))
 
-array-read-if2 : tie.Need-array-read-if2 Inv-loop μ-loop
-array-read-if2 c = search needs
-
 returns-2 : tie.Need-returns-2 Inv-loop μ-loop
 unfolding lows highs ranges commonRanges setRanges
 returns-2 c =
     let l = c .before .before .before .before .loop in
     sym (l .inv .1 ∙ first-here _ _ _ (omega arith) (at-place First _ _ _ _ _ refl (out-above First _ _ _ (omega arith) (omega arith))))
-
-add-k : tie.Need-add-k Inv-loop μ-loop
-add-k c = search needs
-
-loop-less : tie.Need-loop-less Inv-loop μ-loop
-loop-less c = search needs
 
 loop-again : tie.Need-loop-again Inv-loop μ-loop
 unfolding lows highs ranges commonRanges setRanges
@@ -69,13 +51,13 @@ first-out-ctab-spec =
     Inv-loop
     μ-loop
     loop-holds
-    add-b
-    shared-slice-read-b
-    array-read-if1
+    (λ c. search needs)
+    (λ c. search needs)
+    (λ c. search needs)
     returns
-    array-read-if2
+    (λ c. search needs)
     returns-2
-    add-k
-    loop-less
+    (λ c. search needs)
+    (λ c. search needs)
     loop-again
     returns-3)

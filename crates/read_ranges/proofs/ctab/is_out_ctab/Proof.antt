@@ -7,19 +7,13 @@ use borrow.Author.Needs.{needs}
 use Rattle.read_ranges.proofs.ctab.is_out_ctab.Statement.{statement}
 use Rattle.read_ranges.proofs.ctab.is_out_ctab.Tie as tie
 
-array-read-if1 : tie.Need-array-read-if1
-array-read-if1 c = search needs
-
 returns : tie.Need-returns
 unfolding lows highs ranges commonRanges setRanges
 returns c = sym (out-below First _ _ _ (omega arith))
-
-array-read-result : tie.Need-array-read-result
-array-read-result c = search needs
 
 returns-2 : tie.Need-returns-2
 unfolding lows highs ranges commonRanges setRanges
 returns-2 c = decided _ _ _ (omega arith)
 
 pub is-out-ctab-spec : {M : Type 1} → statement M
-is-out-ctab-spec = tie.close (tie.spec array-read-if1 returns array-read-result returns-2)
+is-out-ctab-spec = tie.close (tie.spec (λ c. search needs) returns (λ c. search needs) returns-2)

@@ -21,23 +21,11 @@ loop-holds : tie.Need-loop-holds Inv-loop μ-loop
 unfolding firstOut ruleAt
 loop-holds c = (search needs, (refl, refl))
 
-add-b : tie.Need-add-b Inv-loop μ-loop
-add-b c = search needs
-
-shared-slice-read-b : tie.Need-shared-slice-read-b Inv-loop μ-loop
-shared-slice-read-b c = search needs
-
-array-read-if1 : tie.Need-array-read-if1 Inv-loop μ-loop
-array-read-if1 c = search needs
-
 returns : tie.Need-returns Inv-loop μ-loop
 unfolding lows highs ranges commonRanges setRanges
 returns c =
     let l = c .before .before .before .loop in
     sym (l .inv .1 .1 ∙ first-here _ _ _ (omega arith) (at-place Second _ _ _ _ _ (l .inv .1 .0) (out-below Second _ _ _ (omega arith))))
-
-array-read-if2 : tie.Need-array-read-if2 Inv-loop μ-loop
-array-read-if2 c = search needs
 
 returns-2 : tie.Need-returns-2 Inv-loop μ-loop
 unfolding lows highs ranges commonRanges setRanges
@@ -45,23 +33,11 @@ returns-2 c =
     let l = c .before .before .before .before .loop in
     sym (l .inv .1 .1 ∙ first-here _ _ _ (omega arith) (at-place Second _ _ _ _ _ (l .inv .1 .0) (out-above Second _ _ _ (omega arith) (omega arith))))
 
-array-read-is-barred : tie.Need-array-read-is-barred Inv-loop μ-loop
-array-read-is-barred c = search needs
-
-is-barred-requires : tie.Need-is-barred-requires Inv-loop μ-loop
-is-barred-requires c κs = search needs
-
 returns-3 : tie.Need-returns-3 Inv-loop μ-loop
 unfolding lows highs ruleds ranges commonRanges setRanges
 returns-3 c =
     let l = c .before .before .before .before .before .before .loop in
     sym (l .inv .1 .1 ∙ first-here _ _ _ (omega arith) (at-place Second _ _ _ _ _ (l .inv .1 .0) (out-rest Second _ _ _ (omega arith) (omega arith) ∙ (sym (c .before .is-barred .ensures) ∙ c .if3 .taken))))
-
-add-k : tie.Need-add-k Inv-loop μ-loop
-add-k c = search needs
-
-loop-less : tie.Need-loop-less Inv-loop μ-loop
-loop-less c = search needs
 
 loop-again : tie.Need-loop-again Inv-loop μ-loop
 unfolding lows highs ruleds ranges commonRanges setRanges
@@ -81,16 +57,16 @@ first-out-ctb2-spec =
     Inv-loop
     μ-loop
     loop-holds
-    add-b
-    shared-slice-read-b
-    array-read-if1
+    (λ c. search needs)
+    (λ c. search needs)
+    (λ c. search needs)
     returns
-    array-read-if2
+    (λ c. search needs)
     returns-2
-    array-read-is-barred
-    is-barred-requires
+    (λ c. search needs)
+    (λ c κs. search needs)
     returns-3
-    add-k
-    loop-less
+    (λ c. search needs)
+    (λ c. search needs)
     loop-again
     returns-4)

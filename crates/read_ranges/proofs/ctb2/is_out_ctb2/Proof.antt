@@ -8,25 +8,13 @@ use borrow.Author.Needs.{needs}
 use Rattle.read_ranges.proofs.ctb2.is_out_ctb2.Statement.{statement}
 use Rattle.read_ranges.proofs.ctb2.is_out_ctb2.Tie as tie
 
-array-read-if1 : tie.Need-array-read-if1
-array-read-if1 c = search needs
-
 returns : tie.Need-returns
 unfolding lows highs ranges commonRanges setRanges
 returns c = sym (out-below Second _ _ _ (omega arith))
 
-array-read-if2 : tie.Need-array-read-if2
-array-read-if2 c = search needs
-
 returns-2 : tie.Need-returns-2
 unfolding lows highs ranges commonRanges setRanges
 returns-2 c = sym (out-above Second _ _ _ (omega arith) (omega arith))
-
-array-read-is-barred : tie.Need-array-read-is-barred
-array-read-is-barred c = search needs
-
-is-barred-requires : tie.Need-is-barred-requires
-is-barred-requires c κs = search needs
 
 returns-3 : tie.Need-returns-3
 unfolding lows highs ruleds ranges commonRanges setRanges
@@ -36,10 +24,10 @@ pub is-out-ctb2-spec : {M : Type 1} → statement M
 is-out-ctb2-spec =
     tie.close
     (tie.spec
-    array-read-if1
+    (λ c. search needs)
     returns
-    array-read-if2
+    (λ c. search needs)
     returns-2
-    array-read-is-barred
-    is-barred-requires
+    (λ c. search needs)
+    (λ c κs. search needs)
     returns-3)

@@ -15,9 +15,6 @@ mul-result c = let w = place-of _ First _ _ _ (c .enum-told .given .1) (c .befor
 add-result : tie.Need-add-result
 add-result c = let w = place-of _ First _ _ _ (c .enum-told .given .1) (c .before .before .pre) in search needs
 
-enum-told-2 : tie.Need-enum-told-2
-enum-told-2 c = search needs
-
 mul-result-2 : tie.Need-mul-result-2
 mul-result-2 c = let w = place-of _ Second _ _ _ (c .enum-told2 .given .1) (c .before .before .pre) in search needs
 
@@ -37,7 +34,7 @@ ctab-place-spec =
     enum-told
     mul-result
     add-result
-    enum-told-2
+    (λ c. search needs)
     mul-result-2
     add-result-2
     returns

@@ -10,9 +10,6 @@ use Rattle.read_record.proofs.edition.tag_of.Tie as tie
 enum-told : tie.Need-enum-told
 enum-told c = search needs
 
-enum-told-2 : tie.Need-enum-told-2
-enum-told-2 c = search needs
-
 returns : tie.Need-returns
 unfolding four
 returns c = (sym (ap tagOf (c .enum-told .given .1)), omega arith)
@@ -24,4 +21,4 @@ returns-2 c = (sym (ap tagOf (c .enum-told2 .given .1)), omega arith)
 pub tag-of-spec : {M : Type 1} → statement M
 tag-of-spec =
     tie.close
-    (tie.spec enum-told enum-told-2 returns returns-2)
+    (tie.spec enum-told (λ c. search needs) returns returns-2)

@@ -8,18 +8,12 @@ use borrow.Author.Needs.{needs}
 use Rattle.read_record.proofs.held.first_bad_of.Statement.{statement}
 use Rattle.read_record.proofs.held.first_bad_of.Tie as tie
 
-first-out-requires : tie.Need-first-out-requires
-first-out-requires c κs = search needs
-
 -- the table's answer is about the record's own bytes
 asked : (c : tie.After-first-out) → c .first-out .result ≡ firstOut First (bytesOf (recordOf (c .before .before .args .b .now) (c .before .before .args .second))) 0 26
 asked c = read-out _ _ (c .before .before .pre) _ (c .first-out .ensures)
 
 returns : tie.Need-returns
 returns c = sym (bad-early _ _ (asked (c .before)) (c .if1 .taken))
-
-is-bad-second-requires : tie.Need-is-bad-second-requires
-is-bad-second-requires c κs = search needs
 
 returns-2 : tie.Need-returns-2
 unfolding recordOf
@@ -37,8 +31,8 @@ pub first-bad-of-spec : {M : Type 1} → statement M
 first-bad-of-spec =
     tie.close
     (tie.spec
-    first-out-requires
+    (λ c κs. search needs)
     returns
-    is-bad-second-requires
+    (λ c κs. search needs)
     returns-2
     returns-3)

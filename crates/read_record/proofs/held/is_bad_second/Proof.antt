@@ -9,15 +9,6 @@ use Rattle.read_record.proofs.held.is_bad_second.Tie as tie
 enum-told : tie.Need-enum-told
 enum-told c = search needs
 
-enum-known-second : tie.Need-enum-known-second
-enum-known-second c = search needs
-
-cast-is-cntt-value : tie.Need-cast-is-cntt-value
-cast-is-cntt-value c = search needs
-
-is-cntt-value-requires : tie.Need-is-cntt-value-requires
-is-cntt-value-requires c κs = search needs
-
 returns : tie.Need-returns
 unfolding badSecond
 returns c = sym (ap badSecond (c .enum-told .given .1))
@@ -33,8 +24,8 @@ is-bad-second-spec =
     tie.close
     (tie.spec
     enum-told
-    enum-known-second
-    cast-is-cntt-value
-    is-cntt-value-requires
+    (λ c. search needs)
+    (λ c. search needs)
+    (λ c κs. search needs)
     returns
     returns-2)

@@ -20,7 +20,7 @@ use Rattle.layout.specs.declared.answer.Counted.{Counted}
 use Rattle.layout.proofs.record.Record as T
 use Rattle.layout.proofs.answer.Counted as Q
 use Rattle.read_table.specs.declared.Reading.{Reading}
-use Rattle.read_table.specs.Reading.{toldOf, planned, ReadingPlanned}
+use Rattle.read_table.specs.Reading.{toldOf, plannedRecord, ReadingPlanned}
 use Rattle.read_table.proofs.Plans.{planned-within}
 use Rattle.read_table.proofs.Reading as P
 use Rattle.read_table.proofs.plan_records as plan
@@ -85,7 +85,7 @@ module _ {M : Type 1} (𝓤 : URA M) (H : Heap 𝓤) (A : Atoms 𝓤) (W : Given
 
   -- the table after i turns
   abbrev done-at : Reading → ℕ → List Record
-  done-at p i = filled (planned ss p) i ys
+  done-at p i = filled (plannedRecord ss p) i ys
 
   abbrev Planned : Reading → Type 0
   Planned p = ReadingPlanned ss k (length ys) p
@@ -103,7 +103,7 @@ module _ {M : Type 1} (𝓤 : URA M) (H : Heap 𝓤) (A : Atoms 𝓤) (W : Given
       nothing ! $ move ! (1 ∷ 0 ∷ []) $ fjoin ! $ owned ! usize (Is usize) (uint-makes 𝓤 H A W w64) k _ (refl, k-fits) $ fjoin ! $ move ! (2 ∷ 0 ∷ []) $ fjoin ! $ frame ! $ done !
     where
       len : length (done-at p (p .count)) ≡ length ys
-      len = filled-length (planned ss p) (p .count) ys fit
+      len = filled-length (plannedRecord ss p) (p .count) ys fit
 
   -- ---- what the callees are passed, and what they say
   abbrev to-plan : Plan 𝓤 H A mem run .Ghost
@@ -185,7 +185,7 @@ module _ {M : Type 1} (𝓤 : URA M) (H : Heap 𝓤) (A : Atoms 𝓤) (W : Given
           move ! (2 ∷ []) $ use1 W (‵ Own ⊛ ‵ Own) (shr-slice-copy 𝓤 H A W (named 0) κ₁ u8 .twice src (s₁ ∷ [])) $ split ! $ move ! (3 ∷ 0 ∷ []) $
           use2 W (raw (One 𝓤 H A mem run .pre (to-one p g (i .0)))) (goes-one p g (i .0) (below n-fits) (planned-within ss k (length ys) p h (i .0) less)) $
           calls-at ! fm (One 𝓤 H A mem run) known-one (to-one p g (i .0)) (and-then ! (load ! (from ! (stop !)) (look ! 26 refl)) (and-then ! (load ! (from ! (stop !)) (look ! 20 refl)) (and-then ! (load ! (from ! (stop !)) (look ! 16 refl)) (no-more !)))) (λ w.
-          gives-back ! tt one.ended (κ₁, tt) (src, (p, (i .0, tt))) R (λ r. r ≡ planned ss p (i .0)) (‵ (flft κ₁ q₁) ⊛ ‵ ftrue) w (λ r d is. land ! (from ! (stop !)) (init ! 11 refl (LL.lawful T.the-type T.Laws.the-laws 𝓤 H A W .typed r _ is .0)) $ move ! (1 ∷ []) $ split ! $
+          gives-back ! tt one.ended (κ₁, tt) (src, (p, (i .0, tt))) R (λ r. r ≡ plannedRecord ss p (i .0)) (‵ (flft κ₁ q₁) ⊛ ‵ ftrue) w (λ r d is. land ! (from ! (stop !)) (init ! 11 refl (LL.lawful T.the-type T.Laws.the-laws 𝓤 H A W .typed r _ is .0)) $ move ! (1 ∷ []) $ split ! $
           -- [the body's token; true; what the record owns; what the body owns; the row; the open borrow; obs; auth; _11; …]
           assigns ! (bin ! (load ! (from ! (stop !)) (look ! 18 refl)) (lit ! tt) (scaled-fits _ _ 28 in-table (room .1))) (from ! (stop !)) (init ! 10 refl (tt, scaled-fits _ _ 28 in-table (room .1))) $
           assigns ! (bin ! (load ! (from ! (fld ! refl (stop !))) (look-in ! 24 (sub ! 0 refl (whole !)))) (load ! (from ! (stop !)) (look ! 10 refl)) tt) (from ! (stop !)) (init ! 8 refl (tt, tt)) $
@@ -195,7 +195,7 @@ module _ {M : Type 1} (𝓤 : URA M) (H : Heap 𝓤) (A : Atoms 𝓤) (W : Given
           assigns ! (of-opd ! (load ! (from ! (stop !)) (look ! 14 refl))) (from ! (hop ! (look ! 10 refl) (stop !))) (store-raw ! 0 refl (LL.lawful T.the-type T.Laws.the-laws 𝓤 H A W .typed r _ is .0)) $
           move ! (1 ∷ []) $ drop ! $ move ! (0 ∷ 4 ∷ []) $ elem-put ! R fullShare (done-at p (i .0)) (i .0) r (w ∷ []) b o in-row $
           -- [the row; the body's token; true; what the body owns; the open borrow; obs; auth; _11; …]
-          rewrite ! 0 (λ (l : List Record). ‵ (row R fullShare l b o)) (ap (λ (z : Record). set (done-at p (i .0)) (i .0) z) d ∙ filled-next (planned ss p) (i .0) ys in-table) refl $
+          rewrite ! 0 (λ (l : List Record). ‵ (row R fullShare l b o)) (ap (λ (z : Record). set (done-at p (i .0)) (i .0) z) d ∙ filled-next (plannedRecord ss p) (i .0) ys in-table) refl $
           assigns-last ! (bin ! (load ! (from ! (stop !)) (look ! 17 refl)) (lit ! tt) (record { fits = next-fits })) (from ! (stop !)) (store ! 17 refl (tt, record { fits = next-fits })) $
           forget ! 7 refl $ forget ! 9 refl $ forget ! 11 refl $ forget ! 13 refl $ move ! (2 ∷ []) $ drop ! $ again ! Nearer At i (i .0 + 1, add-one-le less) (add-one-dec n (i .0) less))))
         where
@@ -209,7 +209,7 @@ module _ {M : Type 1} (𝓤 : URA M) (H : Heap 𝓤) (A : Atoms 𝓤) (W : Given
           in-table = omega (arith, less, fit)
 
           in-row : i .0 < length (done-at p (i .0))
-          in-row = subst (λ (m : ℕ). i .0 < m) (sym (filled-length (planned ss p) (i .0) ys (omega (arith, in-table)))) in-table
+          in-row = subst (λ (m : ℕ). i .0 < m) (sym (filled-length (plannedRecord ss p) (i .0) ys (omega (arith, in-table)))) in-table
 
           next-fits : i .0 + 1 < 2 ^ 64
           next-fits = omega (arith, n-fits, less)
@@ -226,7 +226,7 @@ module _ {M : Type 1} (𝓤 : URA M) (H : Heap 𝓤) (A : Atoms 𝓤) (W : Given
           gives ! tt count.ended tt (p, tt) Q.the-row (λ r. r ≡ toldOf p) u (λ r d is.
           -- [what the answer owns; the row; the body's token; what the body owns; the open borrow; obs; auth; _11; …]
           land ! (from ! (stop !)) (init ! 29 refl (LL.lawful Q.the-type Q.Laws.the-laws 𝓤 H A W .typed r _ is .0)) $
-          move ! (1 ∷ 4 ∷ 5 ∷ 6 ∷ []) $ closes-slice ! tt R ys (done-at p n) (filled-length (planned ss p) n ys fit) b o $
+          move ! (1 ∷ 4 ∷ 5 ∷ 6 ∷ []) $ closes-slice ! tt R ys (done-at p n) (filled-length (plannedRecord ss p) n ys fit) b o $
           -- [obs; the borrow; the table's token; what the answer owns; the body's token; what the body owns; _11; …]
           returns ! (look ! 28 refl) $ forget ! 12 refl $ forget ! 14 refl $ forget ! 16 refl $ forget ! 18 refl $ forget ! 20 refl $ forget ! 22 refl $ forget ! 24 refl $ forget ! 26 refl $ forget ! 28 refl $
           move ! (28 ∷ 29 ∷ []) $ free1 ! $ move ! (26 ∷ 27 ∷ []) $ free1 ! $ move ! (24 ∷ 25 ∷ []) $ free1 ! $ move ! (22 ∷ 23 ∷ []) $ free1 ! $ move ! (20 ∷ 21 ∷ []) $ free1 ! $ move ! (18 ∷ 19 ∷ []) $ free1 ! $
@@ -263,7 +263,7 @@ module _ {M : Type 1} (𝓤 : URA M) (H : Heap 𝓤) (A : Atoms 𝓤) (W : Given
         move ! (4 ∷ []) $ fsplit ! $ move ! (1 ∷ []) $ fsplit ! $ move ! (6 ∷ []) $ split ! $ move ! (2 ∷ 3 ∷ 0 ∷ []) $ opens-slice ! tt R ys b o $
         -- [the row; the open borrow; obs; auth; true; the table's fact; the body's token; true; what the body owns; true; _11; …]
         keep ! (0 ∷ 6 ∷ 8 ∷ 1 ∷ 2 ∷ 3 ∷ 10 ∷ 11 ∷ 12 ∷ 13 ∷ 14 ∷ 15 ∷ 16 ∷ 17 ∷ 18 ∷ 19 ∷ 20 ∷ 21 ∷ 22 ∷ 23 ∷ 24 ∷ 25 ∷ 26 ∷ 27 ∷ 28 ∷ 29 ∷ 30 ∷ 31 ∷ 32 ∷ 33 ∷ []) $
-        rewrite ! 0 (λ (l : List Record). ‵ (row R fullShare l b o)) (filled-none (planned ss p) ys) refl $
+        rewrite ! 0 (λ (l : List Record). ‵ (row R fullShare l b o)) (filled-none (plannedRecord ss p) ys) refl $
         looped p (count-of p _ g) (subst (Is P.the-row p) (LL.tells P.the-type P.Laws.the-laws p _ g) g) h l₀ l₁ l₂ l₃ l₄ l₅ l₆ l₇ l₈ l₉ l₁₀ l₁₁))))))))))))))
 
 read-meets : {M : Type 1} (𝓤 : URA M) (H : Heap 𝓤) (A : Atoms 𝓤) → (W : Given 𝓤 H A) → (mem : Memory → SProp 𝓤) (run : Routine → Fun 𝓤) (𝓣 : Tables 𝓤 H)

@@ -6,20 +6,11 @@ use borrow.Author.Needs.{needs}
 use Rattle.script_words.proofs.bytes.product.Statement.{statement}
 use Rattle.script_words.proofs.bytes.product.Tie as tie
 
-returns : tie.Need-returns
-returns c = search needs
-
-returns-2 : tie.Need-returns-2
-returns-2 c = search needs
-
 mul-result : tie.Need-mul-result
 mul-result c =
     let a = c .before .before .args in
     let h : a .count * a .often ≤ a .count * 4294967295 = mul-le-mul-left (a .count) (omega arith) in
     record { fits = omega arith }
 
-returns-3 : tie.Need-returns-3
-returns-3 c = search needs
-
 pub product-spec : {M : Type 1} → statement M
-product-spec = tie.close (tie.spec returns returns-2 mul-result returns-3)
+product-spec = tie.close (tie.spec (λ c. search needs) (λ c. search needs) mul-result (λ c. search needs))

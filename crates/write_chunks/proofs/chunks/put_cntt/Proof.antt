@@ -3,18 +3,6 @@ use borrow.Author.Needs.{needs}
 use Rattle.write_chunks.proofs.chunks.put_cntt.Statement.{statement}
 use Rattle.write_chunks.proofs.chunks.put_cntt.Tie as tie
 
-put-head-requires : tie.Need-put-head-requires
-put-head-requires c κs = search needs
-
-slice-write-out : tie.Need-slice-write-out
-slice-write-out c = search needs
-
-slice-write-out-2 : tie.Need-slice-write-out-2
-slice-write-out-2 c = search needs
-
-same-length : tie.Need-same-length
-same-length c = search needs
-
 returns : tie.Need-returns
 returns c =
     let a = c .before .before .before .before .before .args in
@@ -22,4 +10,4 @@ returns c =
 
 pub put-cntt-spec : {M : Type 1} → statement M
 put-cntt-spec =
-    tie.close (tie.spec put-head-requires slice-write-out slice-write-out-2 same-length returns)
+    tie.close (tie.spec (λ c κs. search needs) (λ c. search needs) (λ c. search needs) (λ c. search needs) returns)

@@ -16,50 +16,11 @@ abbrev μ-loop : tie.MeasureT-loop
 loop-holds : tie.Need-loop-holds Inv-loop μ-loop
 loop-holds c = putting-start _ _ _ _ (cntts-none _)
 
-mul-from : tie.Need-mul-from Inv-loop μ-loop
-mul-from c = search needs
-
-mul-to : tie.Need-mul-to Inv-loop μ-loop
-mul-to c = search needs
-
-add-to : tie.Need-add-to Inv-loop μ-loop
-add-to c = search needs
-
-sub-put-cntt : tie.Need-sub-put-cntt Inv-loop μ-loop
-sub-put-cntt c = search needs
-
-part-put-cntt-start : tie.Need-part-put-cntt-start Inv-loop μ-loop
-part-put-cntt-start c = search needs
-
-part-put-cntt-end : tie.Need-part-put-cntt-end Inv-loop μ-loop
-part-put-cntt-end c = search needs
-
-array-read-put-cntt : tie.Need-array-read-put-cntt Inv-loop μ-loop
-array-read-put-cntt c = search needs
-
-add-put-cntt : tie.Need-add-put-cntt Inv-loop μ-loop
-add-put-cntt c = search needs
-
-array-read-put-cntt-2 : tie.Need-array-read-put-cntt-2 Inv-loop μ-loop
-array-read-put-cntt-2 c = search needs
-
-put-cntt-requires : tie.Need-put-cntt-requires Inv-loop μ-loop
-put-cntt-requires c κs = search needs
-
-add-k : tie.Need-add-k Inv-loop μ-loop
-add-k c = search needs
-
-loop-less : tie.Need-loop-less Inv-loop μ-loop
-loop-less c = search needs
-
 loop-again : tie.Need-loop-again Inv-loop μ-loop
 loop-again c =
     let put = c .before .before in
     let l = put .before .before .before in
     cntts-on _ _ _ _ (l .before .before .pre .1) _ _ (l .loop .inv) (search needs) (put .put-cntt .last .0) (put .put-cntt .ensures)
-
-same-length : tie.Need-same-length Inv-loop μ-loop
-same-length c = search needs
 
 returns : tie.Need-returns Inv-loop μ-loop
 returns c = putting-end _ _ _ _ _ _ (c .before .loop .inv) (search needs)
@@ -71,18 +32,18 @@ put-cntts-spec =
     Inv-loop
     μ-loop
     loop-holds
-    mul-from
-    mul-to
-    add-to
-    sub-put-cntt
-    part-put-cntt-start
-    part-put-cntt-end
-    array-read-put-cntt
-    add-put-cntt
-    array-read-put-cntt-2
-    put-cntt-requires
-    add-k
-    loop-less
+    (λ c. search needs)
+    (λ c. search needs)
+    (λ c. search needs)
+    (λ c. search needs)
+    (λ c. search needs)
+    (λ c. search needs)
+    (λ c. search needs)
+    (λ c. search needs)
+    (λ c. search needs)
+    (λ c κs. search needs)
+    (λ c. search needs)
+    (λ c. search needs)
     loop-again
-    same-length
+    (λ c. search needs)
     returns)

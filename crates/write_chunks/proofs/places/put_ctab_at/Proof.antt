@@ -4,27 +4,6 @@ use borrow.Author.Needs.{needs}
 use Rattle.write_chunks.proofs.places.put_ctab_at.Statement.{statement}
 use Rattle.write_chunks.proofs.places.put_ctab_at.Tie as tie
 
-mul-to : tie.Need-mul-to
-mul-to c = search needs
-
-add-to : tie.Need-add-to
-add-to c = search needs
-
-sub-put-ctab : tie.Need-sub-put-ctab
-sub-put-ctab c = search needs
-
-part-put-ctab-start : tie.Need-part-put-ctab-start
-part-put-ctab-start c = search needs
-
-part-put-ctab-end : tie.Need-part-put-ctab-end
-part-put-ctab-end c = search needs
-
-put-ctab-requires : tie.Need-put-ctab-requires
-put-ctab-requires c κs = search needs
-
-same-length : tie.Need-same-length
-same-length c = search needs
-
 returns : tie.Need-returns
 returns c =
     let put = c .before .before in
@@ -35,11 +14,11 @@ pub put-ctab-at-spec : {M : Type 1} → statement M
 put-ctab-at-spec =
     tie.close
     (tie.spec
-    mul-to
-    add-to
-    sub-put-ctab
-    part-put-ctab-start
-    part-put-ctab-end
-    put-ctab-requires
-    same-length
+    (λ c. search needs)
+    (λ c. search needs)
+    (λ c. search needs)
+    (λ c. search needs)
+    (λ c. search needs)
+    (λ c κs. search needs)
+    (λ c. search needs)
     returns)

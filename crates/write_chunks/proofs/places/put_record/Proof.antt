@@ -6,18 +6,6 @@ use borrow.Author.Needs.{needs}
 use Rattle.write_chunks.proofs.places.put_record.Statement.{statement}
 use Rattle.write_chunks.proofs.places.put_record.Tie as tie
 
-bytes-of-requires : tie.Need-bytes-of-requires
-bytes-of-requires c κs = search needs
-
-slice-aggregate-put-ctab-at : tie.Need-slice-aggregate-put-ctab-at
-slice-aggregate-put-ctab-at c = search needs
-
-put-ctab-at-requires : tie.Need-put-ctab-at-requires
-put-ctab-at-requires c κs = search needs
-
-same-length : tie.Need-same-length
-same-length c = search needs
-
 returns : tie.Need-returns
 returns c =
     let put = c .before .before in
@@ -29,8 +17,8 @@ pub put-record-spec : {M : Type 1} → statement M
 put-record-spec =
     tie.close
     (tie.spec
-    bytes-of-requires
-    slice-aggregate-put-ctab-at
-    put-ctab-at-requires
-    same-length
+    (λ c κs. search needs)
+    (λ c. search needs)
+    (λ c κs. search needs)
+    (λ c. search needs)
     returns)

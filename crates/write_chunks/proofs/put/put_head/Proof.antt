@@ -15,56 +15,26 @@ digits n = n / 16777216 % 256 ∷ n / 65536 % 256 ∷ n / 256 % 256 ∷ n % 256 
 abbrev stored : ℕ → ℕ → List ℕ
 stored tag size = digits tag ++ digits size
 
-cast-out : tie.Need-cast-out
-cast-out c = search needs
-
-slice-write-out : tie.Need-slice-write-out
-slice-write-out c = search needs
-
-cast-out-2 : tie.Need-cast-out-2
-cast-out-2 c = search needs
-
 slice-write-out-2 : tie.Need-slice-write-out-2
 slice-write-out-2 c = let a = c .args in lt-length-sets (a .out .now) 0 (take 1 (stored (a .tag) (a .size))) (omega arith)
-
-cast-out-3 : tie.Need-cast-out-3
-cast-out-3 c = search needs
 
 slice-write-out-3 : tie.Need-slice-write-out-3
 slice-write-out-3 c = let a = c .args in lt-length-sets (a .out .now) 0 (take 2 (stored (a .tag) (a .size))) (omega arith)
 
-cast-out-4 : tie.Need-cast-out-4
-cast-out-4 c = search needs
-
 slice-write-out-4 : tie.Need-slice-write-out-4
 slice-write-out-4 c = let a = c .args in lt-length-sets (a .out .now) 0 (take 3 (stored (a .tag) (a .size))) (omega arith)
-
-cast-out-5 : tie.Need-cast-out-5
-cast-out-5 c = search needs
 
 slice-write-out-5 : tie.Need-slice-write-out-5
 slice-write-out-5 c = let a = c .args in lt-length-sets (a .out .now) 0 (take 4 (stored (a .tag) (a .size))) (omega arith)
 
-cast-out-6 : tie.Need-cast-out-6
-cast-out-6 c = search needs
-
 slice-write-out-6 : tie.Need-slice-write-out-6
 slice-write-out-6 c = let a = c .args in lt-length-sets (a .out .now) 0 (take 5 (stored (a .tag) (a .size))) (omega arith)
-
-cast-out-7 : tie.Need-cast-out-7
-cast-out-7 c = search needs
 
 slice-write-out-7 : tie.Need-slice-write-out-7
 slice-write-out-7 c = let a = c .args in lt-length-sets (a .out .now) 0 (take 6 (stored (a .tag) (a .size))) (omega arith)
 
-cast-out-8 : tie.Need-cast-out-8
-cast-out-8 c = search needs
-
 slice-write-out-8 : tie.Need-slice-write-out-8
 slice-write-out-8 c = let a = c .args in lt-length-sets (a .out .now) 0 (take 7 (stored (a .tag) (a .size))) (omega arith)
-
-same-length : tie.Need-same-length
-same-length c = search needs
 
 returns : tie.Need-returns
 unfolding four
@@ -74,21 +44,21 @@ pub put-head-spec : {M : Type 1} → statement M
 put-head-spec =
     tie.close
     (tie.spec
-    cast-out
-    slice-write-out
-    cast-out-2
+    (λ c. search needs)
+    (λ c. search needs)
+    (λ c. search needs)
     slice-write-out-2
-    cast-out-3
+    (λ c. search needs)
     slice-write-out-3
-    cast-out-4
+    (λ c. search needs)
     slice-write-out-4
-    cast-out-5
+    (λ c. search needs)
     slice-write-out-5
-    cast-out-6
+    (λ c. search needs)
     slice-write-out-6
-    cast-out-7
+    (λ c. search needs)
     slice-write-out-7
-    cast-out-8
+    (λ c. search needs)
     slice-write-out-8
-    same-length
+    (λ c. search needs)
     returns)

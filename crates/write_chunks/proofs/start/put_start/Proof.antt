@@ -13,12 +13,6 @@ sub-put-front c = let h = c .before .before .before .before .before .before .pre
 put-front-requires : tie.Need-put-front-requires
 put-front-requires c κs = let h = c .before .before .before .before .before .before .pre (c .before .before .if1 .left) in omega (arith, h .0, h .1)
 
-add-result : tie.Need-add-result
-add-result c = search needs
-
-same-length : tie.Need-same-length
-same-length c = search needs
-
 returns-2 : tie.Need-returns-2
 returns-2 c =
     let a = c .before .before .before .before .before .before .before .before .before .args in
@@ -26,4 +20,4 @@ returns-2 c =
 
 pub put-start-spec : {M : Type 1} → statement M
 put-start-spec =
-    tie.close (tie.spec returns sub-put-front put-front-requires add-result same-length returns-2)
+    tie.close (tie.spec returns sub-put-front put-front-requires (λ c. search needs) (λ c. search needs) returns-2)

@@ -2,17 +2,8 @@
 use mathlib.Core.Path.{sym, _∙_}
 use Rattle.read_find.proofs.FindLaws.{part-refused, part-asked}
 use borrow.Author.Needs.{needs}
-use Rattle.read_find.proofs.find_part.Statement.{statement}
-use Rattle.read_find.proofs.find_part.Tie as tie
-
-read-groups-requires : tie.Need-read-groups-requires
-read-groups-requires c κs = search needs
-
-enum-known-run : tie.Need-enum-known-run
-enum-known-run c = search needs
-
-enum-known-run-2 : tie.Need-enum-known-run-2
-enum-known-run-2 c = search needs
+use Rattle.read_find.proofs.locate_part.Statement.{statement}
+use Rattle.read_find.proofs.locate_part.Tie as tie
 
 group-named-requires : tie.Need-group-named-requires
 group-named-requires c κs =
@@ -34,13 +25,13 @@ returns-2 c =
     let r = g .before .before .before .before in
     c .group-numbered .ensures ∙ sym (part-asked _ _ (sym (r .before .before .read-groups .ensures .run) ∙ r .run2 .given .1) _ _ (g .group-named .ensures))
 
-pub find-part-spec : {M : Type 1} → statement M
-find-part-spec =
+pub locate-part-spec : {M : Type 1} → statement M
+locate-part-spec =
     tie.close
     (tie.spec
-    read-groups-requires
-    enum-known-run
-    enum-known-run-2
+    (λ c κs. search needs)
+    (λ c. search needs)
+    (λ c. search needs)
     group-named-requires
     group-numbered-requires
     returns

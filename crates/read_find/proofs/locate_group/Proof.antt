@@ -2,17 +2,8 @@
 use mathlib.Core.Path.{sym, _∙_}
 use Rattle.read_find.proofs.FindLaws.{group-refused, group-asked}
 use borrow.Author.Needs.{needs}
-use Rattle.read_find.proofs.find_group.Statement.{statement}
-use Rattle.read_find.proofs.find_group.Tie as tie
-
-read-groups-requires : tie.Need-read-groups-requires
-read-groups-requires c κs = search needs
-
-enum-known-run : tie.Need-enum-known-run
-enum-known-run c = search needs
-
-enum-known-run-2 : tie.Need-enum-known-run-2
-enum-known-run-2 c = search needs
+use Rattle.read_find.proofs.locate_group.Statement.{statement}
+use Rattle.read_find.proofs.locate_group.Tie as tie
 
 group-numbered-requires : tie.Need-group-numbered-requires
 group-numbered-requires c κs =
@@ -27,13 +18,13 @@ returns-2 c =
     let r = c .before .before .before .before .before .before in
     c .group-numbered .ensures ∙ sym (group-asked _ _ (sym (r .before .before .read-groups .ensures .run) ∙ r .run2 .given .1) _)
 
-pub find-group-spec : {M : Type 1} → statement M
-find-group-spec =
+pub locate-group-spec : {M : Type 1} → statement M
+locate-group-spec =
     tie.close
     (tie.spec
-    read-groups-requires
-    enum-known-run
-    enum-known-run-2
+    (λ c κs. search needs)
+    (λ c. search needs)
+    (λ c. search needs)
     group-numbered-requires
     returns
     returns-2)
