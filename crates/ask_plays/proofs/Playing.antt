@@ -1,6 +1,6 @@
 -- What `playing` says of a group: the source channels of exactly those records whose two bits are set, in Ctab order, each once.
 -- They are those of a list that pass a test, and that a group's source channels are apart is what the reader's rules say of its Ctabs.
-use Prim.Native.Nat.{ℕ, _+_, _*_, _-_, _≤_, _<_}
+use Prim.Native.Nat.{ℕ, _+_, _-_, _≤_, _<_}
 use native.Mathlib.Omega.{arith}
 use native.Mathlib.Decide.{decLt}
 use mathlib.Core.Path.{_≡_, sym, ap, _∙_}

@@ -18,7 +18,7 @@ use Rattle.layout.specs.Body.{groupPlace, textAt, sharing, afterContents, group
 use Rattle.layout.proofs.Scans.{first-none, first-passed}
 use Rattle.layout.proofs.Heads.{head-sound}
 use Rattle.layout.proofs.GroupSound.{group-sound-is}
-use Rattle.layout.proofs.GroupThere.{head-drop}
+use Rattle.layout.proofs.HeadsThere.{head-drop}
 use Rattle.layout.proofs.Bodies.{group-there, place-next}
 use Rattle.layout.proofs.Accepted.{body-over, body-within}
 use Rattle.law_refusals.specs.Heads.{HeadRefused}

@@ -13,7 +13,6 @@ use Rattle.layout.specs.Ranges.{ruleAt}
 use Rattle.layout.specs.declared.turn.Turn.the-variants.{Refused, More}
 use Rattle.layout.specs.declared.turn.Run.the-variants.{Stopped, Ended}
 use Rattle.layout.specs.declared.record.Record.{Record}
-use Rattle.layout.specs.declared.edition.Edition.the-variants.{First}
 use Rattle.layout.specs.Records.{bytesOf, blank, channelOf, badByte, firstBad}
 use Rattle.layout.specs.Answers.{refused, afterRun}
 use Rattle.layout.specs.Salvage.{salvage, listNumbers, salvaged}

@@ -2,7 +2,7 @@
 use Prim.Native.Nat.{ℕ, _<_, _≤_}
 use mathlib.Core.Path.{_≡_}
 use mathlib.Core.List.{List}
-use lib.ListN.{length, getD}
+use lib.ListN.{length}
 use Rattle.layout.specs.declared.record.Record.{Record}
 use Rattle.layout.specs.Refusals.{outOfRange, noRoom, notThere, badNumber}
 use Rattle.layout.specs.Editions.{held}

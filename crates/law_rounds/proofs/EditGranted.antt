@@ -1,5 +1,5 @@
 -- What a granted edit says: the body is accepted, the group and the record of the channel are there, and the new record is of that channel and in range.
-use Prim.Native.Nat.{ℕ, _+_, _*_, _≤_, _<_}
+use Prim.Native.Nat.{ℕ, _+_, _≤_, _<_}
 use mathlib.Core.Path.{_≡_, refl, sym}
 use mathlib.Core.Bool.{cond, not}
 use mathlib.Core.List.{List}

@@ -6,7 +6,6 @@ use native.Mathlib.Omega.{arith}
 use lib.ListN.{length, getD, take, set, length-append, length-set}
 use lib.Seq.{length-take-le}
 use Rattle.layout.specs.Bytes.{CSEG, Sdec, Ctab, chunk}
-use Rattle.layout.specs.declared.edition.Edition.the-variants.{First}
 use Rattle.layout.specs.declared.record.Record.{Record}
 use Rattle.layout.specs.Records.{bytesOf, blank, channelOf, firstBad, fileBytes}
 use Rattle.layout.specs.Group.{Group}

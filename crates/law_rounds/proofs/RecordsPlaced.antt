@@ -1,5 +1,5 @@
 -- Records whose Ctabs and Cntts were written into c from p to its end: where each chunk stands, its source channel there, and that the Cntts follow their Ctabs.
-use Prim.Native.Nat.{ℕ, suc, _+_, _*_, _-_, _≤_, _<_}
+use Prim.Native.Nat.{ℕ, suc, _+_, _*_, _≤_, _<_}
 use mathlib.Core.Path.{_≡_, sym, ap, ap₂, _∙_}
 use mathlib.Core.List.{List, [], _++_, append-nil, flatMap}
 use native.Mathlib.Omega.{arith}

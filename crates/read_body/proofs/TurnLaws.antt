@@ -20,7 +20,7 @@ use Rattle.layout.proofs.Runs.{ended-once}
 use Rattle.layout.proofs.Groups.{cseg-tag}
 use Rattle.layout.proofs.GroupPlaces.{group-place}
 use Rattle.layout.proofs.GroupSound.{group-sound-is}
-use Rattle.layout.proofs.GroupThere.{head-drop}
+use Rattle.layout.proofs.HeadsThere.{head-drop}
 use Rattle.layout.proofs.Bodies.{turn-end, turn-head, turn-many, turn-unsound, turn-sound, group-more, group-there}
 use Rattle.read_met.specs.Before.{Places, NamedBefore}
 use Rattle.read_met.proofs.Marked.{marks-next}

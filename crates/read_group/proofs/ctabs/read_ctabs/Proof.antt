@@ -1,5 +1,5 @@
 -- What is still to be read is the run from Ctab number n on; the table holds the homes of the channels so far. n goes up.
-use Prim.Native.Nat.{_+_, _*_, _-_, _≤_}
+use Prim.Native.Nat.{_+_, _-_, _≤_}
 use mathlib.Core.Path.{_≡_, refl, sym, _∙_}
 use native.Mathlib.Omega.{arith}
 use lib.ListN.{length}
