@@ -1,14 +1,17 @@
 -- A walk of the function's MIR, by hand, with a loop that reads one record a turn and passes it to `look_at`, which is covered; each refusal is made there.
 -- The table is looked into once, before the loop, and shut once, after it. After i turns the state is what `takenAt` says of the first i records.
 use Rattle.walk.proofs.Words.{_∙_, _≡_, ap, refl, sym, _*_, _+_, _-_, _<_, _^_, _≤_, zero-le, ℕ, le-antisymm, add-one, add-one-dec, add-one-le, arith, Bool, false, true, InvImage·wf, WellFounded, List, [], _∷_, getD, length, Nat·lt-wfRel, lit<, ltb, scaled-fits, ltb-false, ltb-true}
-use Rattle.walk.proofs.Words.{URA, fullShare, Ty, imm, named, tyBool, tyInt, tyPtr, tyRef, w64, w8, Val, vbool, vint, vptr, SProp, emp, ent, exE, fst∗, id⊢, sep, snd∗, via, Fml, Lft, Share, fat, fdies, flft, fobor, froom, ftrue, Memory, Routine, Calls, Env, Heap, Loops}
-use Rattle.walk.proofs.Words.{Out, Tables, Wp, WpFn, afterBlock, afterSeq, atReturn, afterTurn, Atoms, sem, Fun, fact, givenOf, tables, tablesOf}
-use Rattle.walk.proofs.Words.{ !, Given, Item, Sq, _$_, _∵_, _⊛_, anyQ, atRet, await, by, done, drop, fjoin, frame, fsplit, join, keep, later, move, pick, qed, raw, rewrite, runs, some, split, suffices, use1, use2, ‵, ⋆, Below, again, alloc0, alloc1, and-then, assigns}
+use Rattle.walk.proofs.Words.{URA, fullShare, Ty, imm, named, tyBool, tyInt, tyPtr, tyRef, w64, w8, Val, vbool, vint, vptr, SProp, ent, sep, Fml, Lft, Share, fat, fdies, flft, fobor, froom, ftrue, Memory, Routine, Calls, Env, Heap, Loops}
+use Rattle.walk.proofs.Words.{Out, Tables, Wp, WpFn, afterBlock, afterSeq, atReturn, afterTurn, Atoms, sem, Fun, givenOf, tables, tablesOf}
+use Rattle.walk.proofs.Words.{ !, Given, Item, Sq, _$_, _∵_, _⊛_, anyQ, atRet, by, done, fjoin, frame, fsplit, join, keep, move, qed, raw, rewrite, runs, split, suffices, use1, use2, ‵, ⋆, Below, again, alloc0, alloc1, and-then, assigns}
 use Rattle.walk.proofs.Words.{assigns-last, bin, blocks, enter, exec, first, fld, forget, free0, free1, from, hop, init, land, leaves-loop, lit, load, look, look-raw, loops, no-more, of-opd, params1, pass0, pass1, returns, stays, stop, store, look-in, sub, whole}
-use Rattle.walk.proofs.Words.{arr-parts, FmC, WpFn-mono, fmOf, heard, nothing, only, owned, peeks}
-use Rattle.walk.proofs.Words.{RattleType, owns, Is, shows, pointee, shares, uint-makes, uint-tells, uint-vals, u8, usize, RefT, Room, ShrSlice, shr-slice-tells, slice-vals, sliceTy, sliceVal, elem-back, elem-out, looks-slice, place-is, row, shuts-slice}
-use Rattle.walk.proofs.Words.{onEntry, Meets, tripleOf, Contract, Triple, calls-at, ensured, lasts, cited, entered, Stays, Walks, ends-at, goes-dropped, says, stay-dropped, walk-meets, walkOf, walked, yes, Slot, plain, shrSliceOf}
+use Rattle.walk.proofs.Words.{arr-parts, FmC, fmOf, nothing, only, owned}
+use Rattle.walk.proofs.Words.{owns, Is, shows, pointee, shares, uint-makes, uint-tells, uint-vals, u8, usize, RefT, Room, ShrSlice, shr-slice-tells, slice-vals, sliceTy, sliceVal, elem-back, elem-out, looks-slice, place-is, row, shuts-slice}
+use Rattle.walk.proofs.Words.{onEntry, Meets, tripleOf, Contract, Triple, calls-at, cited, entered, Stays, ends-at, goes-dropped, says, stay-dropped, walkOf, yes, Slot, plain, shrSliceOf}
 use denote.Struct.Laws as LL
+use Rattle.walk.proofs.Records.{R, vals}
+use Rattle.walk.proofs.Calls.{gives, gives-back}
+use Rattle.walk.proofs.Meeting.{meets}
 use Rattle.layout.specs.declared.record.Record.{Record}
 use Rattle.layout.specs.Records.{blank}
 use Rattle.write_plan.specs.declared.Taken.{Taken}
@@ -24,12 +27,6 @@ use Rattle.write_plan.proofs.plan_for as plan-for
 use Rattle.write_table.proofs.lent.plan_group as group
 use Rattle.write_table.proofs.lent.plan_group.Code as code
 use Rattle.write_table.proofs.lent.plan_group.Code.Mir as mir
-
-abbrev R : RattleType
-R = T.the-row
-
-abbrev vals : Record → List Val
-vals = LL.vals T.the-type T.Laws.the-laws
 
 -- the state's machine values
 abbrev valK : Taken → Val
@@ -134,16 +131,13 @@ module _ {M : Type 1} (𝓤 : URA M) (H : Heap 𝓤) (A : Atoms 𝓤) (W : Given
       nothing ! $ move ! (1 ∷ 0 ∷ []) $ join ! $ move ! (2 ∷ 0 ∷ []) $ join ! $ frame ! $
       nothing ! $ nothing ! $ fjoin ! $ nothing ! $ fjoin ! $ nothing ! $ fjoin ! $ nothing ! $ fjoin ! $ frame ! $ done !
 
-  -- ---- what the callees are passed, and what they say
+  -- ---- what the callees are passed
   abbrev to-begin : Begin 𝓤 H A mem run .Ghost
   to-begin = (((κ₁, tt), (q₁, tt), tt, (text, (many, (count, tt))), (s₁ ∷ [], (vint w64 many ∷ [], (vint w64 count ∷ [], tt)))), tt)
 
   goes-begin : many < 2 ^ 64 → ent 𝓤 (sep 𝓤 (A .lft κ₁ q₁) (sem 𝓤 H A OwnText)) (Begin 𝓤 H A mem run .pre to-begin)
   goes-begin fits = qed W (‵ (flft κ₁ q₁) ∷ ‵ OwnText ∷ []) ∵ nothing ! $ move ! (1 ∷ 0 ∷ []) $ join ! $ nothing ! $ owned ! usize (Is usize) (uint-makes 𝓤 H A W w64) count _ (refl, count-fits) $ fjoin ! $
       owned ! usize (Is usize) (uint-makes 𝓤 H A W w64) many _ (refl, fits) $ fjoin ! $ move ! (2 ∷ 0 ∷ []) $ fjoin ! $ move ! (1 ∷ 0 ∷ []) $ join ! $ frame ! $ done !
-
-  said-begin : (y : Taken) → ent 𝓤 (ensured 𝓤 H A begin.ended (begin.clauses 𝓤 H A mem run) (κ₁, tt) (text, (many, (count, tt))) tt y) (fact 𝓤 (y ≡ x₀))
-  said-begin y = exE 𝓤 _ (λ ws. snd∗ 𝓤 (sem 𝓤 H A (lasts begin.ended (κ₁, tt) (text, (many, (count, tt))) ws)) (fact 𝓤 (y ≡ x₀)))
 
   abbrev to-look : Taken → ℕ → Record → Look 𝓤 H A mem run .Ghost
   to-look x i r = ((tt, tt, tt, (x, (i, (r, tt))), (valsK x, (vint w64 i ∷ [], (vals r, tt)))), tt)
@@ -152,17 +146,11 @@ module _ {M : Type 1} (𝓤 : URA M) (H : Heap 𝓤) (A : Atoms 𝓤) (W : Given
   goes-look x i r fits g within = qed W (‵ (OwnX x) ∷ []) ∵ says ! within $ nothing ! $ frame ! $ nothing ! $ owned ! R (Is R) (LL.makes T.the-type T.Laws.the-plain 𝓤 H A) r _ g $ fjoin ! $
       owned ! usize (Is usize) (uint-makes 𝓤 H A W w64) i _ (refl, fits) $ fjoin ! $ move ! (1 ∷ 0 ∷ []) $ fjoin ! $ done !
 
-  said-look : (x : Taken) (i : ℕ) (r : Record) (y : Taken) → ent 𝓤 (ensured 𝓤 H A look-at.ended (look-at.clauses 𝓤 H A mem run) tt (x, (i, (r, tt))) tt y) (fact 𝓤 (y ≡ taken x i r))
-  said-look x i r y = exE 𝓤 _ (λ ws. snd∗ 𝓤 (sem 𝓤 H A (lasts look-at.ended tt (x, (i, (r, tt))) ws)) (fact 𝓤 (y ≡ taken x i r)))
-
   abbrev to-plan : Taken → Planning 𝓤 H A mem run .Ghost
   to-plan x = ((tt, tt, tt, (x, (space, tt)), (valsK x, (vint w64 space ∷ [], tt))), tt)
 
   goes-plan : (x : Taken) → ent 𝓤 (sem 𝓤 H A (OwnX x)) (Planning 𝓤 H A mem run .pre (to-plan x))
   goes-plan x = qed W (‵ (OwnX x) ∷ []) ∵ nothing ! $ nothing ! $ owned ! usize (Is usize) (uint-makes 𝓤 H A W w64) space _ (refl, space-fits) $ fjoin ! $ move ! (2 ∷ 0 ∷ []) $ fjoin ! $ move ! (1 ∷ 0 ∷ []) $ join ! $ frame ! $ done !
-
-  said-plan : (x : Taken) (p : Plan) → ent 𝓤 (ensured 𝓤 H A plan-for.ended (plan-for.clauses 𝓤 H A mem run) tt (x, (space, tt)) tt p) (fact 𝓤 (p ≡ planned x space))
-  said-plan x p = exE 𝓤 _ (λ ws. snd∗ 𝓤 (sem 𝓤 H A (lasts plan-for.ended tt (x, (space, tt)) ws)) (fact 𝓤 (p ≡ planned x space)))
 
   module _ (𝓣 : Tables 𝓤 H) (known-begin : Triple 𝓤 (𝓣 .C begin.Symbol.name) (Begin 𝓤 H A mem run)) (known-look : Triple 𝓤 (𝓣 .C look-at.Symbol.name) (Look 𝓤 H A mem run)) (known-plan : Triple 𝓤 (𝓣 .C plan-for.Symbol.name) (Planning 𝓤 H A mem run)) (room : Room R (length rs)) where
     abbrev C : Calls 𝓤 H
@@ -230,17 +218,15 @@ module _ {M : Type 1} (𝓤 : URA M) (H : Heap 𝓤) (A : Atoms 𝓤) (W : Given
           -- [the row; what the state owns; the text's token; the open borrow; _13; …]
           move ! (1 ∷ []) $ use1 W (raw (Look 𝓤 H A mem run .pre (to-look (x-at (i .0)) j r))) (goes-look (x-at (i .0)) j r fits g (looking ts many count rs j (few (room .1) in-table))) $
           calls-at ! fm (Look 𝓤 H A mem run) known-look (to-look (x-at (i .0)) j r) (and-then ! (load ! (from ! (stop !)) (look ! 20 refl)) (and-then ! (load ! (from ! (stop !)) (look ! 16 refl)) (and-then ! (load ! (from ! (stop !)) (look ! 14 refl)) (no-more !)))) (λ w.
-          use1 W (later (some (λ (y : Taken). (‵ ftrue ⊛ ‵ (K.the-row .own y (w ∷ []))) ⊛ raw (ensured 𝓤 H A look-at.ended (look-at.clauses 𝓤 H A mem run) tt (x-at (i .0), (j, (r, tt))) tt y)))) (id⊢ 𝓤 _) $ await ! tt $ pick ! (λ y.
-          split ! $ move ! (1 ∷ []) $ use1 W (raw (fact 𝓤 (y ≡ taken (x-at (i .0)) j r))) (said-look (x-at (i .0)) j r y) $ heard ! (y ≡ taken (x-at (i .0)) j r) (λ d. split ! $ move ! (1 ∷ []) $
-          peeks ! K.the-row (Is K.the-row) (shows 𝓤 H A K.the-row) y (w ∷ []) (λ is.
+          gives ! tt look-at.ended tt (x-at (i .0), (j, (r, tt))) K.the-row (λ y. y ≡ taken (x-at (i .0)) j r) w (λ y d is.
           -- the call's result is stored over the state
-          land ! (from ! (stop !)) (store ! 21 refl (LL.lawful K.the-type K.Laws.the-laws 𝓤 H A W .typed y _ is .0)) $ rewrite ! 21 (λ (u : Val). ‵ (fat fullShare K.Laws.mir l₅ 0 u)) (ap only (LL.tells K.the-type K.Laws.the-laws y _ is)) refl $
+          land ! (from ! (stop !)) (store ! 20 refl (LL.lawful K.the-type K.Laws.the-laws 𝓤 H A W .typed y _ is .0)) $ rewrite ! 20 (λ (u : Val). ‵ (fat fullShare K.Laws.mir l₅ 0 u)) (ap only (LL.tells K.the-type K.Laws.the-laws y _ is)) refl $
           rewrite ! 0 (λ (vs : List Val). ‵ (K.the-row .own y vs)) (LL.tells K.the-type K.Laws.the-laws y _ is) refl $
-          rewrite ! 21 (λ (z : Taken). ‵ (fat fullShare K.Laws.mir l₅ 0 (valK z))) (d ∙ looked-next x₀ rs (i .0)) refl $ rewrite ! 0 (λ (z : Taken). ‵ (OwnX z)) (d ∙ looked-next x₀ rs (i .0)) refl $
-          -- [what the state owns; true; the row; the text's token; the open borrow; _13; …]
-          assigns-last ! (bin ! (load ! (from ! (stop !)) (look ! 17 refl)) (lit ! tt) (record { fits = next-fits })) (from ! (stop !)) (store ! 17 refl (tt, record { fits = next-fits })) $
-          forget ! 5 refl $ forget ! 7 refl $ forget ! 9 refl $ forget ! 11 refl $ forget ! 15 refl $ move ! (1 ∷ []) $ drop ! $ move ! (0 ∷ 2 ∷ []) $
-          again ! Nearer At i (i .0 + 1, add-one-le less) (add-one-dec n (i .0) less))))))
+          rewrite ! 20 (λ (z : Taken). ‵ (fat fullShare K.Laws.mir l₅ 0 (valK z))) (d ∙ looked-next x₀ rs (i .0)) refl $ rewrite ! 0 (λ (z : Taken). ‵ (OwnX z)) (d ∙ looked-next x₀ rs (i .0)) refl $
+          -- [what the state owns; the row; the text's token; the open borrow; _13; …]
+          assigns-last ! (bin ! (load ! (from ! (stop !)) (look ! 16 refl)) (lit ! tt) (record { fits = next-fits })) (from ! (stop !)) (store ! 16 refl (tt, record { fits = next-fits })) $
+          forget ! 4 refl $ forget ! 6 refl $ forget ! 8 refl $ forget ! 10 refl $ forget ! 14 refl $ move ! (0 ∷ 2 ∷ []) $
+          again ! Nearer At i (i .0 + 1, add-one-le less) (add-one-dec n (i .0) less))))
         where
           r : Record
           r = getD rs (i .0) blank
@@ -270,16 +256,14 @@ module _ {M : Type 1} (𝓤 : URA M) (H : Heap 𝓤) (A : Atoms 𝓤) (W : Given
           rewrite ! 0 (λ (k : ℕ). ‵ (OwnX (x-at k))) last refl $ rewrite ! 20 (λ (k : ℕ). ‵ (fat fullShare K.Laws.mir l₅ 0 (valK (x-at k)))) last refl $
           use1 W (raw (Planning 𝓤 H A mem run .pre (to-plan (x-at n)))) (goes-plan (x-at n)) $
           calls-at ! fm (Planning 𝓤 H A mem run) known-plan (to-plan (x-at n)) (and-then ! (load ! (from ! (stop !)) (look ! 20 refl)) (and-then ! (load ! (from ! (stop !)) (look ! 22 refl)) (no-more !))) (λ w.
-          use1 W (later (some (λ (p : Plan). (‵ ftrue ⊛ ‵ (P.the-row .own p (w ∷ []))) ⊛ raw (ensured 𝓤 H A plan-for.ended (plan-for.clauses 𝓤 H A mem run) tt (x-at n, (space, tt)) tt p)))) (id⊢ 𝓤 _) $ await ! tt $ pick ! (λ p.
-          split ! $ move ! (1 ∷ []) $ use1 W (raw (fact 𝓤 (p ≡ planned (x-at n) space))) (said-plan (x-at n) p) $ heard ! (p ≡ planned (x-at n) space) (λ e. split ! $ move ! (1 ∷ []) $
-          peeks ! P.the-row (Is P.the-row) (shows 𝓤 H A P.the-row) p (w ∷ []) (λ is. land ! (from ! (stop !)) (init ! 31 refl (LL.lawful P.the-type P.Laws.the-laws 𝓤 H A W .typed p _ is .0)) $
-          -- [what the plan owns; true; the text's token; the row; the open borrow; _13; …]
-          move ! (3 ∷ 4 ∷ []) $ shuts-slice ! tt R q′ rs b o $
-          -- [the table's token; what the plan owns; true; the text's token; _13; …]
-          returns ! (look ! 30 refl) $ forget ! 10 refl $ forget ! 12 refl $ forget ! 16 refl $ forget ! 18 refl $ forget ! 20 refl $ forget ! 22 refl $ forget ! 24 refl $ forget ! 26 refl $ forget ! 28 refl $ forget ! 30 refl $
-          move ! (30 ∷ 31 ∷ []) $ free1 ! $ move ! (28 ∷ 29 ∷ []) $ free1 ! $ move ! (26 ∷ 27 ∷ []) $ free1 ! $ move ! (24 ∷ 25 ∷ []) $ free1 ! $ move ! (22 ∷ 23 ∷ []) $ free1 ! $ move ! (20 ∷ 21 ∷ []) $ free1 ! $ move ! (18 ∷ 19 ∷ []) $ free1 ! $
-          move ! (16 ∷ 17 ∷ []) $ free1 ! $ move ! (14 ∷ 15 ∷ []) $ free1 ! $ move ! (12 ∷ 13 ∷ []) $ free1 ! $ move ! (10 ∷ 11 ∷ []) $ free1 ! $ move ! (8 ∷ 9 ∷ []) $ free1 ! $ move ! (6 ∷ 7 ∷ []) $ free1 ! $ move ! (4 ∷ 5 ∷ []) $ free1 ! $ free0 ! $
-          keep ! (0 ∷ 1 ∷ 3 ∷ []) $ by ! (exits p w (e ∙ plan-is ts rs count space))))))
+          gives ! tt plan-for.ended tt (x-at n, (space, tt)) P.the-row (λ p. p ≡ planned (x-at n) space) w (λ p e is. land ! (from ! (stop !)) (init ! 30 refl (LL.lawful P.the-type P.Laws.the-laws 𝓤 H A W .typed p _ is .0)) $
+          -- [what the plan owns; the text's token; the row; the open borrow; _13; …]
+          move ! (2 ∷ 3 ∷ []) $ shuts-slice ! tt R q′ rs b o $
+          -- [the table's token; what the plan owns; the text's token; _13; …]
+          returns ! (look ! 29 refl) $ forget ! 9 refl $ forget ! 11 refl $ forget ! 15 refl $ forget ! 17 refl $ forget ! 19 refl $ forget ! 21 refl $ forget ! 23 refl $ forget ! 25 refl $ forget ! 27 refl $ forget ! 29 refl $
+          move ! (29 ∷ 30 ∷ []) $ free1 ! $ move ! (27 ∷ 28 ∷ []) $ free1 ! $ move ! (25 ∷ 26 ∷ []) $ free1 ! $ move ! (23 ∷ 24 ∷ []) $ free1 ! $ move ! (21 ∷ 22 ∷ []) $ free1 ! $ move ! (19 ∷ 20 ∷ []) $ free1 ! $ move ! (17 ∷ 18 ∷ []) $ free1 ! $
+          move ! (15 ∷ 16 ∷ []) $ free1 ! $ move ! (13 ∷ 14 ∷ []) $ free1 ! $ move ! (11 ∷ 12 ∷ []) $ free1 ! $ move ! (9 ∷ 10 ∷ []) $ free1 ! $ move ! (7 ∷ 8 ∷ []) $ free1 ! $ move ! (5 ∷ 6 ∷ []) $ free1 ! $ move ! (3 ∷ 4 ∷ []) $ free1 ! $ free0 ! $
+          by ! (exits p w (e ∙ plan-is ts rs count space))))
         where
           last : i .0 ≡ n
           last = le-antisymm (i .1) (ltb-false (i .0) n t)
@@ -304,9 +288,7 @@ module _ {M : Type 1} (𝓤 : URA M) (H : Heap 𝓤) (A : Atoms 𝓤) (W : Given
         -- [the text's token; the table's; what the table owns; the rest; what the text owns; _13; …]
         move ! (0 ∷ 4 ∷ []) $ use2 W (raw (Begin 𝓤 H A mem run .pre to-begin)) (goes-begin (room .0)) $
         calls-at ! fm (Begin 𝓤 H A mem run) known-begin to-begin (and-then ! (load ! (from ! (stop !)) (look ! 28 refl)) (and-then ! (load ! (from ! (stop !)) (look ! 12 refl)) (and-then ! (load ! (from ! (stop !)) (look ! 24 refl)) (no-more !)))) (λ w.
-        use1 W (later (some (λ (y : Taken). ((‵ (flft κ₁ q₁) ⊛ ‵ ftrue) ⊛ ‵ (K.the-row .own y (w ∷ []))) ⊛ raw (ensured 𝓤 H A begin.ended (begin.clauses 𝓤 H A mem run) (κ₁, tt) (text, (many, (count, tt))) tt y)))) (id⊢ 𝓤 _) $ await ! tt $ pick ! (λ y.
-        split ! $ move ! (1 ∷ []) $ use1 W (raw (fact 𝓤 (y ≡ x₀))) (said-begin y) $ heard ! (y ≡ x₀) (λ d. split ! $ move ! (1 ∷ []) $
-        peeks ! K.the-row (Is K.the-row) (shows 𝓤 H A K.the-row) y (w ∷ []) (λ is.
+        gives-back ! tt begin.ended (κ₁, tt) (text, (many, (count, tt))) K.the-row (λ y. y ≡ x₀) (‵ (flft κ₁ q₁) ⊛ ‵ ftrue) w (λ y d is.
         land ! (from ! (stop !)) (init ! 21 refl (LL.lawful K.the-type K.Laws.the-laws 𝓤 H A W .typed y _ is .0)) $ rewrite ! 21 (λ (u : Val). ‵ (fat fullShare K.Laws.mir l₅ 0 u)) (ap only (LL.tells K.the-type K.Laws.the-laws y _ is)) refl $
         rewrite ! 0 (λ (vs : List Val). ‵ (K.the-row .own y vs)) (LL.tells K.the-type K.Laws.the-laws y _ is) refl $
         rewrite ! 21 (λ (z : Taken). ‵ (fat fullShare K.Laws.mir l₅ 0 (valK z))) d refl $ rewrite ! 0 (λ (z : Taken). ‵ (OwnX z)) d refl $
@@ -318,19 +300,15 @@ module _ {M : Type 1} (𝓤 : URA M) (H : Heap 𝓤) (A : Atoms 𝓤) (W : Given
         -- [the borrow; the table's token; res; fact; true; the text's token; true; what the state owns; the rest; _13; …]
         looks-slice ! tt R (Is R) (shows 𝓤 H A R) vals (LL.tells T.the-type T.Laws.the-laws) (LL.copy T.the-type T.Laws.the-copy 𝓤 H A W) rs b o (λ q′.
         keep ! (8 ∷ 6 ∷ 0 ∷ 1 ∷ 10 ∷ 11 ∷ 12 ∷ 13 ∷ 14 ∷ 15 ∷ 16 ∷ 17 ∷ 18 ∷ 19 ∷ 20 ∷ 21 ∷ 22 ∷ 23 ∷ 24 ∷ 25 ∷ 26 ∷ 27 ∷ 28 ∷ 29 ∷ 30 ∷ 31 ∷ 32 ∷ 33 ∷ 34 ∷ 35 ∷ 36 ∷ 37 ∷ []) $
-        looped q′ l₀ l₁ l₂ l₃ l₄ l₅ l₆ l₇ l₈ l₉ l₁₀ l₁₁ l₁₂ l₁₃)))))))))))))))))))
+        looped q′ l₀ l₁ l₂ l₃ l₄ l₅ l₆ l₇ l₈ l₉ l₁₀ l₁₁ l₁₂ l₁₃)))))))))))))))))
 
-module _ {M : Type 1} (𝓤 : URA M) (H : Heap 𝓤) (A : Atoms 𝓤) (W : Given 𝓤 H A) (mem : Memory → SProp 𝓤) (run : Routine → Fun 𝓤) (𝓣 : Tables 𝓤 H) (known-begin : Triple 𝓤 (𝓣 .C begin.Symbol.name) (Begin 𝓤 H A mem run)) (known-look : Triple 𝓤 (𝓣 .C look-at.Symbol.name) (Look 𝓤 H A mem run)) (known-plan : Triple 𝓤 (𝓣 .C plan-for.Symbol.name) (Planning 𝓤 H A mem run)) where
-  group-walks : Walks 𝓤 H A group.ended stayed (WpFn 𝓤 H (𝓣 .C) (𝓣 .Λ) code.function) (group.clauses 𝓤 H A mem run)
-  group-walks = walked 𝓤 H A group.ended stayed (group.clauses 𝓤 H A mem run) (WpFn 𝓤 H (𝓣 .C) (𝓣 .Λ) code.function)
-      (λ κs. (slice-vals, (slice-vals, (uint-vals w64, (uint-vals w64, tt))))) (λ κs. (shr-slice-tells (named 0) (κs .0) u8, (shr-slice-tells (named 1) (κs .1 .0) R, (uint-tells w64, (uint-tells w64, tt)))))
-      (λ κs qs bounds a g are. via 𝓤 _ (fst∗ 𝓤 _ (emp 𝓤))
-      (walk 𝓤 H A W mem run (κs .0) (κs .1 .0) (qs .0) (qs .1 .0) (a .0) (a .1 .0) (a .1 .1 .0) (are .1 .1 .0 .1) (a .1 .1 .1 .0) (are .1 .1 .1 .0 .1) 𝓣 known-begin known-look known-plan (are .1 .0 .0 .1) (are .0 .0 .1 .0)))
-
-  group-meets : Meets 𝓤 H A group.signature (WpFn 𝓤 H (𝓣 .C) (𝓣 .Λ) code.function) (group.spec 𝓤 H A mem run)
-  group-meets =
-      walk-meets 𝓤 H A group.ended stayed W (goes-dropped 𝓤 H A W 2 Text yes (λ κs x f. refl), (goes-dropped 𝓤 H A W 2 Table yes (λ κs x f. refl), (goes-dropped 𝓤 H A W 2 Num yes (λ κs x f. refl), (goes-dropped 𝓤 H A W 2 Num yes (λ κs x f. refl), tt)))) (group.clauses 𝓤 H A mem run)
-      (WpFn 𝓤 H (𝓣 .C) (𝓣 .Λ) code.function) (WpFn-mono 𝓤 H (W .laws) 𝓣 code.function) group-walks
+group-meets : {M : Type 1} (𝓤 : URA M) (H : Heap 𝓤) (A : Atoms 𝓤) (W : Given 𝓤 H A) (mem : Memory → SProp 𝓤) (run : Routine → Fun 𝓤) (𝓣 : Tables 𝓤 H)
+    → Triple 𝓤 (𝓣 .C begin.Symbol.name) (Begin 𝓤 H A mem run) → Triple 𝓤 (𝓣 .C look-at.Symbol.name) (Look 𝓤 H A mem run) → Triple 𝓤 (𝓣 .C plan-for.Symbol.name) (Planning 𝓤 H A mem run)
+    → Meets 𝓤 H A group.signature (WpFn 𝓤 H (𝓣 .C) (𝓣 .Λ) code.function) (group.spec 𝓤 H A mem run)
+group-meets 𝓤 H A W mem run 𝓣 known-begin known-look known-plan =
+    meets 𝓤 H A group.ended stayed W (goes-dropped 𝓤 H A W 2 Text yes (λ κs x f. refl), (goes-dropped 𝓤 H A W 2 Table yes (λ κs x f. refl), (goes-dropped 𝓤 H A W 2 Num yes (λ κs x f. refl), (goes-dropped 𝓤 H A W 2 Num yes (λ κs x f. refl), tt))))
+    (group.clauses 𝓤 H A mem run) 𝓣 code.function (λ κs. (slice-vals, (slice-vals, (uint-vals w64, (uint-vals w64, tt))))) (λ κs. (shr-slice-tells (named 0) (κs .0) u8, (shr-slice-tells (named 1) (κs .1 .0) R, (uint-tells w64, (uint-tells w64, tt)))))
+    (λ κs qs bounds a _ are. walk 𝓤 H A W mem run (κs .0) (κs .1 .0) (qs .0) (qs .1 .0) (a .0) (a .1 .0) (a .1 .1 .0) (are .1 .1 .0 .1) (a .1 .1 .1 .0) (are .1 .1 .1 .0 .1) 𝓣 known-begin known-look known-plan (are .1 .0 .0 .1) (are .0 .0 .1 .0))
 
 pub plan-group-spec : {M : Type 1} → group.Statement.statement M
 unfolding code.routine tablesOf
