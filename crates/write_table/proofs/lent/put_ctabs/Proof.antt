@@ -2,20 +2,23 @@
 -- The table is looked into once, before the loop, and shut once, after it. The output is lent again in each turn, for a lifetime that is made for the call, and comes back (`Again.antt`).
 -- After i turns the output is what `Putting.antt` says of the Ctabs of the first i records.
 use Rattle.walk.proofs.Words.{_∙_, _≡_, refl, subst, sym, _*_, _+_, _-_, _<_, _^_, _≤_, zero-le, ℕ, le-antisymm, add-one-dec, add-one-le, arith, Bool, false, true, InvImage·wf, WellFounded, List, [], _∷_, getD, length, Nat·lt-wfRel, lit<, ltb, scaled-fits, ltb-false, ltb-true}
-use Rattle.walk.proofs.Words.{URA, fullShare, Ty, erased, imm, mut, named, tyBool, tyInt, tyPtr, tyRef, w64, w8, Val, vbool, vint, vptr, SProp, ent, id⊢, sep, Fml, GName, Lft, Share, fat, fdies, flft, fobor, froom, ftrue, Memory, Routine, Calls, Env, Heap, Loops, Out}
-use Rattle.walk.proofs.Words.{Tables, Wp, WpFn, afterBlock, afterSeq, atReturn, afterTurn, Atoms, sem, Fun, fact, givenOf, tables, tablesOf}
+use Rattle.walk.proofs.Words.{URA, fullShare, Ty, erased, imm, mut, named, tyBool, tyInt, tyPtr, tyRef, w64, w8, Val, vbool, vint, vptr, SProp, ent, sep, Fml, GName, Lft, Share, fat, fdies, flft, fobor, froom, ftrue, Memory, Routine, Calls, Env, Heap, Loops, Out}
+use Rattle.walk.proofs.Words.{Tables, Wp, WpFn, afterBlock, afterSeq, atReturn, afterTurn, Atoms, sem, Fun, givenOf, tables, tablesOf}
 use Rattle.walk.proofs.Words.{ !, Given, Item, Sq, _$_, _∵_, _⊛_, anyQ, atRet, await, by, done, drop, feqI, feqL, fjoin, frame, fsplit, join, keep, later, move, pick, qed, raw, rewrite, runs, some, split, suffices, use1, use2, use3, ‵, ⋆, Below, addr, again, alloc0}
 use Rattle.walk.proofs.Words.{alloc1, and-then, assigns, assigns-last, bin, blocks, enter, exec, first, fld, forget, free0, free1, from, hop, init, land, leaves-loop, lit, load, look, look-raw, loops, no-more, of-opd, params1, pass0, pass1, returns, stays, stop, store}
-use Rattle.walk.proofs.Words.{agg, look-in, sub, whole, arr-parts, lft-end, lft-new, FmC, WpFn-mono, fmOf, heard, nothing, owned, peeks}
-use Rattle.walk.proofs.Words.{RattleType, owns, Is, shows, pointee, shares, uint-makes, uint-tells, uint-vals, u8, usize, RefT, MutSlice, Room, ShrSlice, mut-slice-tells, shr-slice-copy, shr-slice-tells, slice-vals, sliceTy, sliceVal, elem-back, elem-out, looks-slice}
+use Rattle.walk.proofs.Words.{agg, look-in, sub, whole, arr-parts, lft-end, lft-new, FmC, fmOf, nothing, owned}
+use Rattle.walk.proofs.Words.{owns, Is, shows, pointee, shares, uint-makes, uint-tells, uint-vals, u8, usize, RefT, MutSlice, Room, ShrSlice, mut-slice-tells, shr-slice-copy, shr-slice-tells, slice-vals, sliceTy, sliceVal, elem-back, elem-out, looks-slice}
 use Rattle.walk.proofs.Words.{place-is, row, shuts-slice}
-use Rattle.walk.proofs.Words.{onEntry, Meets, tripleOf, Contract, Triple, calls-at, ensured, lasts, cited, entered, Stays, Walks, ends-at, goes-dropped, goes-none-slice, goes-slice, needs, says, stay-dropped, stay-none-slice, stay-slice, walk-meets, walkOf, walked, yes, Slot, plain}
+use Rattle.walk.proofs.Words.{onEntry, Meets, tripleOf, Contract, Triple, calls-at, cited, entered, Stays, ends-at, goes-dropped, goes-none-slice, goes-slice, needs, says, stay-dropped, stay-none-slice, stay-slice, walkOf, yes, Slot, plain}
 use package.mir.Syntax.{tyUnit}
 use package.mir.Val.{vunit}
 use types.Run.{unit-lit}
 use denote.Plain.{nothing-lawful}
 use denote.Builtin.{unit}
 use denote.Struct.Laws as LL
+use Rattle.walk.proofs.Records.{R, vals}
+use Rattle.walk.proofs.Calls.{gives-lent}
+use Rattle.walk.proofs.Meeting.{meets-under}
 use Rattle.layout.specs.declared.record.Record.{Record}
 use Rattle.layout.specs.Records.{blank}
 use Rattle.layout.specs.Edit.{replaced}
@@ -27,12 +30,6 @@ use Rattle.write_chunks.proofs.places.put_record as put
 use Rattle.write_table.proofs.lent.put_ctabs as pass
 use Rattle.write_table.proofs.lent.put_ctabs.Code as code
 use Rattle.write_table.proofs.lent.put_ctabs.Code.Mir as mir
-
-abbrev R : RattleType
-R = T.the-row
-
-abbrev vals : Record → List Val
-vals = LL.vals T.the-type T.Laws.the-laws
 
 abbrev Num : Slot 2
 Num = plain (λ _. usize)
@@ -180,18 +177,15 @@ module _ {M : Type 1} (𝓤 : URA M) (H : Heap 𝓤) (A : Atoms 𝓤) (W : Given
           use2 W (later (some (λ (δ : GName). ‵ (MutSlice (named 0) (ν ∷ []) u8 .own (x δ ys) (s (length ys) ∷ [])) ⊛ ‵ (LentAgain u8 κ₂ (ν ∷ []) q₂ γ b o δ ys)))) (lends-again u8 κ₂ (ν ∷ []) q₂ γ b o 𝓤 H A W (named 1) (named 0) ys) $ await ! tt $ pick ! (λ δ. split ! $
           move ! (2 ∷ 0 ∷ []) $ use2 W (raw (Put 𝓤 H A mem run .pre (to-put ν δ ys p j r))) (goes-put ν δ ys p j r p-fits fits g in-ys) $
           calls-at ! fm (Put 𝓤 H A mem run) known (to-put ν δ ys p j r) (and-then ! (load ! (from ! (stop !)) (look ! 5 refl)) (and-then ! (load ! (from ! (stop !)) (look ! 23 refl)) (and-then ! (load ! (from ! (stop !)) (look ! 21 refl)) (and-then ! (load ! (from ! (stop !)) (look ! 19 refl)) (no-more !))))) (λ w.
-          use1 W (later (some (λ (u : Unit {0}). ((‵ (flft (ν ∷ []) fullShare) ⊛ ‵ ftrue) ⊛ ‵ (unit .own u (w ∷ []))) ⊛ raw (ensured 𝓤 H A put.ended (put.clauses 𝓤 H A mem run) (ν ∷ [], tt) (x δ ys, (p, (j, (r, tt)))) tt u)))) (id⊢ 𝓤 _) $ await ! tt $ pick ! (λ u.
-          split ! $ move ! (1 ∷ []) $ use1 W (some (λ (zs : List ℕ × (Unit {0} × (Unit {0} × (Unit {0} × Unit {0})))). ‵ (lasts put.ended (ν ∷ [], tt) (x δ ys, (p, (j, (r, tt)))) zs) ⊛ raw (fact 𝓤 (zs .0 ≡ replaced ys (p + 35 * j) (ctabBytes r))))) (id⊢ 𝓤 _) $ pick ! (λ zs.
-          split ! $ move ! (1 ∷ []) $ heard ! (zs .0 ≡ replaced ys (p + 35 * j) (ctabBytes r)) (λ d. fsplit ! $ fsplit ! $ move ! (1 ∷ []) $ feqL ! (λ l.
-          move ! (2 ∷ []) $ split ! $ move ! (1 ∷ []) $ peeks ! unit (Is unit) (shows 𝓤 H A unit) u (w ∷ []) (λ is. land ! (from ! (stop !)) (init ! 12 refl (nothing-lawful 𝓤 H A W .typed u _ is .0)) $
-          move ! (1 ∷ []) $ split ! $ lft-end ! tt $ move ! (0 ∷ 5 ∷ 3 ∷ []) $
+          gives-lent ! tt put.ended (ν ∷ [], tt) (x δ ys, (p, (j, (r, tt)))) unit (λ u zs. zs .0 ≡ replaced ys (p + 35 * j) (ctabBytes r)) (‵ (flft (ν ∷ []) fullShare) ⊛ ‵ ftrue) w (λ u zs d is.
+          land ! (from ! (stop !)) (init ! 11 refl (nothing-lawful 𝓤 H A W .typed u _ is .0)) $ move ! (2 ∷ []) $ fsplit ! $ fsplit ! $ move ! (1 ∷ []) $ feqL ! (λ l. move ! (3 ∷ []) $ split ! $ lft-end ! tt $ move ! (0 ∷ 5 ∷ 2 ∷ []) $
           use3 W (later (‵ (OwnOut (zs .0) (length ys)) ⊛ ‵ (flft κ₂ q₂))) (comes-back u8 κ₂ (ν ∷ []) q₂ γ b o 𝓤 H A W (named 1) (named 0) ys δ (zs .0) room-at l) $ await ! tt $ split ! $
-          -- [what the output owns; its token; true; the result's; what is left; the row; the open borrow; what the table owns; _13; …]
+          -- [what the output owns; its token; true; what is left; the result's; the row; the open borrow; what the table owns; _13; …]
           assigns-last ! (bin ! (load ! (from ! (stop !)) (look ! 24 refl)) (lit ! tt) (record { fits = next-fits })) (from ! (stop !)) (store ! 24 refl (tt, record { fits = next-fits })) $
           rewrite ! 0 (λ (z : List ℕ). ‵ (OwnOut z (length ys))) (d ∙ put-next .so) refl $ rewrite ! 0 (λ (k : ℕ). ‵ (OwnOut (out-at (i .0 + 1)) k)) same-len refl $
           rewrite ! 28 (λ (k : ℕ). ‵ (fat fullShare slice₃ l₃ 0 (s k))) same-len refl $
           forget ! 8 refl $ forget ! 10 refl $ forget ! 12 refl $ forget ! 14 refl $ forget ! 16 refl $ forget ! 18 refl $ forget ! 20 refl $ forget ! 22 refl $ move ! (2 ∷ 3 ∷ 4 ∷ []) $ drop ! $ drop ! $ drop ! $
-          again ! Nearer At i (i .0 + 1, add-one-le less) (add-one-dec n (i .0) less))))))))))
+          again ! Nearer At i (i .0 + 1, add-one-le less) (add-one-dec n (i .0) less)))))))
         where
           ys : List ℕ
           ys = out-at (i .0)
@@ -283,18 +277,13 @@ module _ {M : Type 1} (𝓤 : URA M) (H : Heap 𝓤) (A : Atoms 𝓤) (W : Given
         start : out ≡ out-at 0
         start = ctabs-start rs out at n .so
 
-module _ {M : Type 1} (𝓤 : URA M) (H : Heap 𝓤) (A : Atoms 𝓤) (W : Given 𝓤 H A) (mem : Memory → SProp 𝓤) (run : Routine → Fun 𝓤) (𝓣 : Tables 𝓤 H) where
-  pass-walks : Triple 𝓤 (𝓣 .C put.Symbol.name) (Put 𝓤 H A mem run) → Walks 𝓤 H A pass.ended stayed (WpFn 𝓤 H (𝓣 .C) (𝓣 .Λ) code.function) (pass.clauses 𝓤 H A mem run)
-  pass-walks known = walked 𝓤 H A pass.ended stayed (pass.clauses 𝓤 H A mem run) (WpFn 𝓤 H (𝓣 .C) (𝓣 .Λ) code.function)
-      (λ κs. (slice-vals, (uint-vals w64, (slice-vals, (uint-vals w64, tt))))) (λ κs. (shr-slice-tells (named 0) (κs .0) R, (uint-tells w64, (mut-slice-tells (named 1) (κs .1 .0) u8, (uint-tells w64, tt)))))
-      (λ κs qs bounds a g are. needs 𝓤 ((a .1 .0 ≤ length (a .0 .now)) × (a .1 .1 .1 .0 + 35 * a .1 .0 ≤ length (a .1 .1 .0 .now))) _ (λ h.
-      walk 𝓤 H A W mem run (κs .0) (κs .1 .0) (qs .0) (qs .1 .0) (a .0) (a .1 .0) (are .1 .0 .1) (a .1 .1 .0 .ptr .0) (a .1 .1 .0 .ptr .1) (a .1 .1 .0 .name) (a .1 .1 .0 .now) (a .1 .1 .1 .0) (are .1 .1 .1 .0 .1) 𝓣 known (are .0 .0 .1) (are .1 .1 .0 .0 .1) (h .0) (h .1)))
-
-pass-meets : {M : Type 1} (𝓤 : URA M) (H : Heap 𝓤) (A : Atoms 𝓤) → Given 𝓤 H A → (mem : Memory → SProp 𝓤) (run : Routine → Fun 𝓤) (𝓣 : Tables 𝓤 H)
+pass-meets : {M : Type 1} (𝓤 : URA M) (H : Heap 𝓤) (A : Atoms 𝓤) (W : Given 𝓤 H A) (mem : Memory → SProp 𝓤) (run : Routine → Fun 𝓤) (𝓣 : Tables 𝓤 H)
     → Triple 𝓤 (𝓣 .C put.Symbol.name) (Put 𝓤 H A mem run) → Meets 𝓤 H A pass.signature (WpFn 𝓤 H (𝓣 .C) (𝓣 .Λ) code.function) (pass.spec 𝓤 H A mem run)
 pass-meets 𝓤 H A W mem run 𝓣 known =
-    walk-meets 𝓤 H A pass.ended stayed W (goes-none-slice 𝓤 H A W 2 (0 ∷ []) tt (plain (λ _. R)) yes, (goes-dropped 𝓤 H A W 2 Num yes (λ κs x f. refl), (goes-slice 𝓤 H A W 2 1 tt (plain (λ _. u8)), (goes-dropped 𝓤 H A W 2 Num yes (λ κs x f. refl), tt)))) (pass.clauses 𝓤 H A mem run)
-    (WpFn 𝓤 H (𝓣 .C) (𝓣 .Λ) code.function) (WpFn-mono 𝓤 H (W .laws) 𝓣 code.function) (pass-walks 𝓤 H A W mem run 𝓣 known)
+    meets-under 𝓤 H A pass.ended stayed W (goes-none-slice 𝓤 H A W 2 (0 ∷ []) tt (plain (λ _. R)) yes, (goes-dropped 𝓤 H A W 2 Num yes (λ κs x f. refl), (goes-slice 𝓤 H A W 2 1 tt (plain (λ _. u8)), (goes-dropped 𝓤 H A W 2 Num yes (λ κs x f. refl), tt))))
+    (pass.clauses 𝓤 H A mem run) 𝓣 code.function (λ κs. (slice-vals, (uint-vals w64, (slice-vals, (uint-vals w64, tt))))) (λ κs. (shr-slice-tells (named 0) (κs .0) R, (uint-tells w64, (mut-slice-tells (named 1) (κs .1 .0) u8, (uint-tells w64, tt)))))
+    (λ κs qs bounds a _ are. needs 𝓤 ((a .1 .0 ≤ length (a .0 .now)) × (a .1 .1 .1 .0 + 35 * a .1 .0 ≤ length (a .1 .1 .0 .now))) _ (λ h.
+    walk 𝓤 H A W mem run (κs .0) (κs .1 .0) (qs .0) (qs .1 .0) (a .0) (a .1 .0) (are .1 .0 .1) (a .1 .1 .0 .ptr .0) (a .1 .1 .0 .ptr .1) (a .1 .1 .0 .name) (a .1 .1 .0 .now) (a .1 .1 .1 .0) (are .1 .1 .1 .0 .1) 𝓣 known (are .0 .0 .1) (are .1 .1 .0 .0 .1) (h .0) (h .1)))
 
 pub put-ctabs-spec : {M : Type 1} → pass.Statement.statement M
 unfolding code.routine tablesOf
