@@ -1,16 +1,19 @@
 -- A walk of the function's MIR, by hand, in four parts: the plan, what it writes without the records, the Ctabs, the answer. Each refusal is in the plan, which asks for no step where it refuses.
 -- The output is lent again for each of the two steps, for a lifetime that is made for the call, and comes back. What the steps ask for and what they leave are laws of crate `write_chunks`: `plan-fits` and `plan-written`.
 use Rattle.walk.proofs.Words.{_∙_, _≡_, ap, refl, subst, sym, _*_, _+_, _<_, _^_, _≤_, ℕ, arith, List, [], _∷_, length}
-use Rattle.walk.proofs.Words.{URA, fullShare, Ty, erased, imm, mut, named, tyInt, tyRef, w64, w8, Val, vint, SProp, emp, ent, exE, fst∗, id⊢, sep, snd∗, via, Fml, GName, Lft, Share, fat, fdies, flft, froom, ftrue, Memory, Routine, Calls, Env, Heap, Loops, Tables, WpFn}
-use Rattle.walk.proofs.Words.{Atoms, sem, Fun, fact, givenOf, tables, tablesOf}
+use Rattle.walk.proofs.Words.{URA, fullShare, Ty, erased, imm, mut, named, tyInt, tyRef, w64, w8, Val, vint, SProp, ent, sep, Fml, GName, Lft, Share, fat, fdies, flft, froom, ftrue, Memory, Routine, Calls, Env, Heap, Loops, Tables, WpFn}
+use Rattle.walk.proofs.Words.{Atoms, sem, Fun, givenOf, tables, tablesOf}
 use Rattle.walk.proofs.Words.{ !, Given, Item, Sq, _$_, _∵_, _⊛_, atRet, await, by, done, drop, feqL, fjoin, frame, fsplit, join, keep, later, move, pick, qed, raw, rewrite, runs, some, split, suffices, use1, use2, use3, ‵, ⋆, addr, alloc0, alloc1, and-then, assigns}
-use Rattle.walk.proofs.Words.{enter, fld, forget, free0, free1, from, hop, init, land, load, look, no-more, of-opd, params1, pass0, pass1, returns, stop, agg, look-in, sub, whole, lft-end, lft-new, FmC, WpFn-mono, fmOf, heard, nothing, only, owned, peeks}
-use Rattle.walk.proofs.Words.{RattleType, owns, Is, shows, pointee, uint-lawful, uint-makes, uint-tells, uint-vals, u8, usize, RefT, MutSlice, Room, ShrSlice, mut-slice-tells, shr-slice-copy, shr-slice-tells, slice-vals, sliceTy, sliceVal}
-use Rattle.walk.proofs.Words.{onEntry, Meets, tripleOf, Contract, Triple, calls-at, ensured, lasts, cited, entered, Stays, Walks, ends-at, goes-dropped, goes-slice, says, stay-dropped, stay-slice, walk-meets, walkOf, walked, yes, Slot, plain, shrSliceOf}
+use Rattle.walk.proofs.Words.{enter, fld, forget, free0, free1, from, hop, init, land, load, look, no-more, of-opd, params1, pass0, pass1, returns, stop, agg, look-in, sub, whole, lft-end, lft-new, FmC, fmOf, nothing, only, owned}
+use Rattle.walk.proofs.Words.{owns, Is, pointee, uint-lawful, uint-makes, uint-tells, uint-vals, u8, usize, RefT, MutSlice, Room, ShrSlice, mut-slice-tells, shr-slice-copy, shr-slice-tells, slice-vals, sliceTy, sliceVal}
+use Rattle.walk.proofs.Words.{onEntry, Meets, tripleOf, Contract, Triple, calls-at, cited, entered, Stays, ends-at, goes-dropped, goes-slice, says, stay-dropped, stay-slice, walkOf, yes, Slot, plain, shrSliceOf}
 use package.mir.Syntax.{tyUnit}
 use denote.Plain.{nothing-lawful}
 use denote.Builtin.{unit}
 use denote.Struct.Laws as LL
+use Rattle.walk.proofs.Records.{R}
+use Rattle.walk.proofs.Calls.{gives, gives-back, gives-lent}
+use Rattle.walk.proofs.Meeting.{meets}
 use Rattle.layout.specs.declared.answer.Measured.{Measured}
 use Rattle.layout.specs.declared.record.Record.{Record}
 use Rattle.layout.specs.Edit.{replaced}
@@ -21,7 +24,6 @@ use Rattle.write_plan.specs.Chunks.{framed}
 use Rattle.write_chunks.proofs.Putting.{ctabs as ctabs-of}
 use Rattle.write_chunks.proofs.Written.{PlanFits, plan-fits, plan-written}
 use Rattle.layout.proofs.answer.Measured as Q
-use Rattle.layout.proofs.record.Record as T
 use Rattle.write_plan.proofs.Plan as P
 use Rattle.write_table.proofs.Again.{LentAgain, lends-again, comes-back}
 use Rattle.write_table.proofs.lent.plan_group as plan
@@ -31,9 +33,6 @@ use Rattle.write_plan.proofs.measured as measured
 use Rattle.write_table.proofs.write_group as group
 use Rattle.write_table.proofs.write_group.Code as code
 use Rattle.write_table.proofs.write_group.Code.Mir as mir
-
-abbrev R : RattleType
-R = T.the-row
 
 -- a plan's machine values
 abbrev valP : Plan → Val
@@ -137,7 +136,7 @@ module _ {M : Type 1} (𝓤 : URA M) (H : Heap 𝓤) (A : Atoms 𝓤) (W : Given
       -- [what the output owns; what the answer owns]
       nothing ! $ move ! (1 ∷ 0 ∷ []) $ fjoin ! $ nothing ! $ fjoin ! $ nothing ! $ fjoin ! $ nothing ! $ fjoin ! $ frame ! $ done !
 
-  -- ---- what the callees are passed, and what they say
+  -- ---- what the callees are passed
   abbrev to-plan : Planning 𝓤 H A mem run .Ghost
   to-plan = (((κ₁, (κ₂, tt)), (q₁, (q₂, tt)), tt, (text, (table, (count, (length out, tt)))), (s₁ ∷ [], (s₂ ∷ [], (vint w64 count ∷ [], (vint w64 (length out) ∷ [], tt))))), tt)
 
@@ -145,9 +144,6 @@ module _ {M : Type 1} (𝓤 : URA M) (H : Heap 𝓤) (A : Atoms 𝓤) (W : Given
   goes-plan out-fits = qed W ((‵ OwnText ⊛ ‵ OwnTab) ∷ ‵ (flft κ₁ q₁) ∷ ‵ (flft κ₂ q₂) ∷ []) ∵ nothing ! $ move ! (3 ∷ 0 ∷ []) $ join ! $ move ! (2 ∷ 0 ∷ []) $ join ! $ move ! (1 ∷ []) $ split ! $
       nothing ! $ owned ! usize (Is usize) (uint-makes 𝓤 H A W w64) (length out) _ (refl, out-fits) $ fjoin ! $ owned ! usize (Is usize) (uint-makes 𝓤 H A W w64) count _ (refl, count-fits) $ fjoin ! $
       move ! (2 ∷ 0 ∷ []) $ fjoin ! $ move ! (1 ∷ 0 ∷ []) $ fjoin ! $ move ! (1 ∷ 0 ∷ []) $ join ! $ frame ! $ done !
-
-  said-plan : (p : Plan) → ent 𝓤 (ensured 𝓤 H A plan.ended (plan.clauses 𝓤 H A mem run) (κ₁, (κ₂, tt)) (text, (table, (count, (length out, tt)))) tt p) (fact 𝓤 (p ≡ pl))
-  said-plan p = exE 𝓤 _ (λ ws. snd∗ 𝓤 (sem 𝓤 H A (lasts plan.ended (κ₁, (κ₂, tt)) (text, (table, (count, (length out, tt)))) ws)) (fact 𝓤 (p ≡ pl)))
 
   -- the output lent again for the lifetime ν under the name δ
   abbrev OwnFirst : ℕ → GName → List ℕ → Fml
@@ -178,9 +174,6 @@ module _ {M : Type 1} (𝓤 : URA M) (H : Heap 𝓤) (A : Atoms 𝓤) (W : Given
 
   goes-measure : ent 𝓤 (sem 𝓤 H A (P.the-row .own pl (valsP pl))) (Measure 𝓤 H A mem run .pre to-measure)
   goes-measure = qed W (‵ (P.the-row .own pl (valsP pl)) ∷ []) ∵ nothing ! $ nothing ! $ move ! (2 ∷ 0 ∷ []) $ fjoin ! $ move ! (1 ∷ 0 ∷ []) $ join ! $ frame ! $ done !
-
-  said-measure : (r : Measured) → ent 𝓤 (ensured 𝓤 H A measured.ended (measured.clauses 𝓤 H A mem run) tt (pl, tt) tt r) (fact 𝓤 (r ≡ measuredBy pl))
-  said-measure r = exE 𝓤 _ (λ ws. snd∗ 𝓤 (sem 𝓤 H A (lasts measured.ended tt (pl, tt) ws)) (fact 𝓤 (r ≡ measuredBy pl)))
 
   module _ (C : Calls 𝓤 H) (Λ : Loops 𝓤 H) (fm : FmC 𝓤 H (W .laws) C) (known-plan : Triple 𝓤 (C plan.Symbol.name) (Planning 𝓤 H A mem run)) (known-start : Triple 𝓤 (C start.Symbol.name) (Start 𝓤 H A mem run)) (known-put : Triple 𝓤 (C put.Symbol.name) (Put 𝓤 H A mem run))
       (known-measure : Triple 𝓤 (C measured.Symbol.name) (Measure 𝓤 H A mem run)) (room₂ : Room R (length rs)) (room : Room u8 (length out)) where
@@ -226,14 +219,12 @@ module _ {M : Type 1} (𝓤 : URA M) (H : Heap 𝓤) (A : Atoms 𝓤) (W : Given
       answered len =
           owned ! P.the-row (Is P.the-row) (LL.makes P.the-type P.Laws.the-plain 𝓤 H A) pl _ g $ use1 W (raw (Measure 𝓤 H A mem run .pre to-measure)) goes-measure $
           calls-at ! fm (Measure 𝓤 H A mem run) known-measure to-measure (and-then ! (load ! (from ! (stop !)) (look ! 21 refl)) (no-more !)) (λ w.
-          use1 W (later (some (λ (r : Measured). (‵ ftrue ⊛ ‵ (Q.the-row .own r (w ∷ []))) ⊛ raw (ensured 𝓤 H A measured.ended (measured.clauses 𝓤 H A mem run) tt (pl, tt) tt r)))) (id⊢ 𝓤 _) $ await ! tt $ pick ! (λ r.
-          split ! $ move ! (1 ∷ []) $ use1 W (raw (fact 𝓤 (r ≡ measuredBy pl))) (said-measure r) $ heard ! (r ≡ measuredBy pl) (λ e. split ! $ move ! (1 ∷ []) $
-          peeks ! Q.the-row (Is Q.the-row) (shows 𝓤 H A Q.the-row) r (w ∷ []) (λ is. land ! (from ! (stop !)) (init ! 32 refl (LL.lawful Q.the-type Q.Laws.the-laws 𝓤 H A W .typed r _ is .0)) $
-          -- [what the answer owns; true; the text's token; the table's; what the output owns; its token; _13; …]
-          returns ! (look ! 32 refl) $ forget ! 16 refl $ forget ! 18 refl $ forget ! 20 refl $ forget ! 22 refl $ forget ! 24 refl $ forget ! 26 refl $ forget ! 28 refl $ forget ! 30 refl $ forget ! 32 refl $
-          move ! (32 ∷ 33 ∷ []) $ free1 ! $ move ! (30 ∷ 31 ∷ []) $ free1 ! $ move ! (28 ∷ 29 ∷ []) $ free1 ! $ move ! (26 ∷ 27 ∷ []) $ free1 ! $ move ! (24 ∷ 25 ∷ []) $ free1 ! $ move ! (22 ∷ 23 ∷ []) $ free1 ! $ move ! (20 ∷ 21 ∷ []) $ free1 ! $
-          move ! (18 ∷ 19 ∷ []) $ free1 ! $ move ! (16 ∷ 17 ∷ []) $ free1 ! $ move ! (14 ∷ 15 ∷ []) $ free1 ! $ move ! (12 ∷ 13 ∷ []) $ free1 ! $ move ! (10 ∷ 11 ∷ []) $ free1 ! $ move ! (8 ∷ 9 ∷ []) $ free1 ! $ move ! (6 ∷ 7 ∷ []) $ free1 ! $ free0 ! $
-          keep ! (4 ∷ 2 ∷ 3 ∷ 5 ∷ 0 ∷ []) $ by ! (exits r w len e)))))
+          gives ! tt measured.ended tt (pl, tt) Q.the-row (λ r. r ≡ measuredBy pl) w (λ r e is. land ! (from ! (stop !)) (init ! 31 refl (LL.lawful Q.the-type Q.Laws.the-laws 𝓤 H A W .typed r _ is .0)) $
+          -- [what the answer owns; the text's token; the table's; what the output owns; its token; _13; …]
+          returns ! (look ! 31 refl) $ forget ! 15 refl $ forget ! 17 refl $ forget ! 19 refl $ forget ! 21 refl $ forget ! 23 refl $ forget ! 25 refl $ forget ! 27 refl $ forget ! 29 refl $ forget ! 31 refl $
+          move ! (31 ∷ 32 ∷ []) $ free1 ! $ move ! (29 ∷ 30 ∷ []) $ free1 ! $ move ! (27 ∷ 28 ∷ []) $ free1 ! $ move ! (25 ∷ 26 ∷ []) $ free1 ! $ move ! (23 ∷ 24 ∷ []) $ free1 ! $ move ! (21 ∷ 22 ∷ []) $ free1 ! $ move ! (19 ∷ 20 ∷ []) $ free1 ! $
+          move ! (17 ∷ 18 ∷ []) $ free1 ! $ move ! (15 ∷ 16 ∷ []) $ free1 ! $ move ! (13 ∷ 14 ∷ []) $ free1 ! $ move ! (11 ∷ 12 ∷ []) $ free1 ! $ move ! (9 ∷ 10 ∷ []) $ free1 ! $ move ! (7 ∷ 8 ∷ []) $ free1 ! $ move ! (5 ∷ 6 ∷ []) $ free1 ! $ free0 ! $
+          move ! (3 ∷ 1 ∷ 2 ∷ 4 ∷ []) $ by ! (exits r w len e)))
 
       -- the Ctabs
       ctabs : length out₁ ≡ length out → Sq W (‵ OwnTab ∷ ‵ (flft κ₁ q₁) ∷ ‵ (flft κ₂ q₂) ∷ ‵ (OwnOut out₁ (length out₁)) ∷ ‵ (flft κ₃ q₃)
@@ -248,15 +239,13 @@ module _ {M : Type 1} (𝓤 : URA M) (H : Heap 𝓤) (A : Atoms 𝓤) (W : Given
           -- [what `put_ctabs` asks; what is left of the output; the text's token; _13; …]
           calls-at ! fm (Put 𝓤 H A mem run) known-put (to-put ν δ out₁ to)
           (and-then ! (load ! (from ! (stop !)) (look ! 25 refl)) (and-then ! (load ! (from ! (stop !)) (look ! 15 refl)) (and-then ! (load ! (from ! (stop !)) (look ! 3 refl)) (and-then ! (load ! (from ! (stop !)) (look ! 17 refl)) (no-more !))))) (λ w.
-          use1 W (later (some (λ (u : Unit {0}). ((‵ (flft κ₂ q₂) ⊛ ‵ (flft (ν ∷ []) fullShare) ⊛ ‵ ftrue) ⊛ ‵ (unit .own u (w ∷ []))) ⊛ raw (ensured 𝓤 H A put.ended (put.clauses 𝓤 H A mem run) (κ₂, (ν ∷ [], tt)) (table, (n, (x δ out₁, (to, tt)))) tt u)))) (id⊢ 𝓤 _) $ await ! tt $ pick ! (λ u.
-          split ! $ move ! (1 ∷ []) $ use1 W (some (λ (zs : Unit {0} × (Unit {0} × (List ℕ × (Unit {0} × Unit {0})))). ‵ (lasts put.ended (κ₂, (ν ∷ [], tt)) (table, (n, (x δ out₁, (to, tt)))) zs) ⊛ raw (fact 𝓤 (zs .1 .1 .0 ≡ out₂)))) (id⊢ 𝓤 _) $ pick ! (λ zs.
-          split ! $ move ! (1 ∷ []) $ heard ! (zs .1 .1 .0 ≡ out₂) (λ d. fsplit ! $ drop ! $ fsplit ! $ drop ! $ fsplit ! $ fsplit ! $ move ! (1 ∷ []) $ feqL ! (λ l.
-          move ! (2 ∷ []) $ split ! $ move ! (1 ∷ []) $ peeks ! unit (Is unit) (shows 𝓤 H A unit) u (w ∷ []) (λ is. land ! (from ! (stop !)) (init ! 10 refl (nothing-lawful 𝓤 H A W .typed u _ is .0)) $
-          move ! (1 ∷ []) $ split ! $ move ! (1 ∷ []) $ split ! $ lft-end ! tt $ move ! (0 ∷ 6 ∷ 4 ∷ []) $
+          gives-lent ! tt put.ended (κ₂, (ν ∷ [], tt)) (table, (n, (x δ out₁, (to, tt)))) unit (λ u zs. zs .1 .1 .0 ≡ replaced out₁ to (ctabs-of rs n)) (‵ (flft κ₂ q₂) ⊛ ‵ (flft (ν ∷ []) fullShare) ⊛ ‵ ftrue) w (λ u zs d is.
+          land ! (from ! (stop !)) (init ! 9 refl (nothing-lawful 𝓤 H A W .typed u _ is .0)) $ move ! (2 ∷ []) $ fsplit ! $ drop ! $ fsplit ! $ drop ! $ fsplit ! $ fsplit ! $ move ! (1 ∷ []) $ feqL ! (λ l.
+          move ! (3 ∷ []) $ split ! $ move ! (1 ∷ []) $ split ! $ lft-end ! tt $ move ! (0 ∷ 6 ∷ 3 ∷ []) $
           use3 W (later (‵ (OwnOut (zs .1 .1 .0) (length out₁)) ⊛ ‵ (flft κ₃ q₃))) (comes-back u8 κ₃ (ν ∷ []) q₃ γ b o 𝓤 H A W (named 2) (named 1) out₁ δ (zs .1 .1 .0) here l) $ await ! tt $ split ! $
-          -- [what the output owns; its token; true; the table's token; the result's; what is left; the text's token; _13; …]
+          -- [what the output owns; its token; true; the table's token; what is left; the result's; the text's token; _13; …]
           rewrite ! 0 (λ (z : List ℕ). ‵ (OwnOut z (length out₁))) d refl $ rewrite ! 0 (λ (k : ℕ). ‵ (OwnOut out₂ k)) (sym l ∙ ap length d) refl $ rewrite ! 25 (λ (k : ℕ). ‵ (fat fullShare slice₄ l₄ 0 (s k))) (sym l ∙ ap length d) refl $
-          forget ! 7 refl $ forget ! 9 refl $ forget ! 11 refl $ keep ! (6 ∷ 3 ∷ 0 ∷ 1 ∷ 7 ∷ 8 ∷ 9 ∷ 10 ∷ 11 ∷ 12 ∷ 13 ∷ 14 ∷ 15 ∷ 16 ∷ 17 ∷ 18 ∷ 19 ∷ 20 ∷ 21 ∷ 22 ∷ 23 ∷ 24 ∷ 25 ∷ 26 ∷ 27 ∷ 28 ∷ 29 ∷ 30 ∷ 31 ∷ 32 ∷ 33 ∷ 34 ∷ []) $ answered (sym (ap length d) ∙ (l ∙ len))))))))))
+          forget ! 7 refl $ forget ! 9 refl $ forget ! 11 refl $ keep ! (6 ∷ 3 ∷ 0 ∷ 1 ∷ 7 ∷ 8 ∷ 9 ∷ 10 ∷ 11 ∷ 12 ∷ 13 ∷ 14 ∷ 15 ∷ 16 ∷ 17 ∷ 18 ∷ 19 ∷ 20 ∷ 21 ∷ 22 ∷ 23 ∷ 24 ∷ 25 ∷ 26 ∷ 27 ∷ 28 ∷ 29 ∷ 30 ∷ 31 ∷ 32 ∷ 33 ∷ 34 ∷ []) $ answered (sym (ap length d) ∙ (l ∙ len)))))))
         where
           to : ℕ
           to = at
@@ -281,16 +270,14 @@ module _ {M : Type 1} (𝓤 : URA M) (H : Heap 𝓤) (A : Atoms 𝓤) (W : Given
           move ! (0 ∷ 3 ∷ []) $ join ! $ move ! (0 ∷ 2 ∷ 3 ∷ []) $ use3 W (raw (Start 𝓤 H A mem run .pre (to-start ν δ))) (goes-start ν δ g) $
           -- [what `put_frame` asks; what is left of the output; what the table owns; the table's token; _13; …]
           calls-at ! fm (Start 𝓤 H A mem run) known-start (to-start ν δ) (and-then ! (load ! (from ! (stop !)) (look ! 10 refl)) (and-then ! (load ! (from ! (stop !)) (look ! 28 refl)) (and-then ! (load ! (from ! (stop !)) (look ! 20 refl)) (no-more !)))) (λ w.
-          use1 W (later (some (λ (m : ℕ). ((‵ (flft (ν ∷ []) fullShare) ⊛ ‵ (flft κ₁ q₁) ⊛ ‵ ftrue) ⊛ ‵ (usize .own m (w ∷ []))) ⊛ raw (ensured 𝓤 H A start.ended (start.clauses 𝓤 H A mem run) (ν ∷ [], (κ₁, tt)) (x δ out, (text, (pl, tt))) tt m)))) (id⊢ 𝓤 _) $ await ! tt $ pick ! (λ m.
-          split ! $ move ! (1 ∷ []) $ use1 W (some (λ (zs : List ℕ × (Unit {0} × (Unit {0} × Unit {0}))). ‵ (lasts start.ended (ν ∷ [], (κ₁, tt)) (x δ out, (text, (pl, tt))) zs) ⊛ raw (fact 𝓤 ((m ≡ at) × (zs .0 ≡ out₁))))) (id⊢ 𝓤 _) $ pick ! (λ zs.
-          split ! $ move ! (1 ∷ []) $ heard ! ((m ≡ at) × (zs .0 ≡ out₁)) (λ d. fsplit ! $ fsplit ! $ move ! (1 ∷ []) $ feqL ! (λ l.
-          move ! (2 ∷ []) $ split ! $ move ! (1 ∷ []) $ peeks ! usize (Is usize) (shows 𝓤 H A usize) m (w ∷ []) (λ is. land ! (from ! (stop !)) (init ! 21 refl (uint-lawful 𝓤 H A W w64 .typed m _ is .0)) $
-          rewrite ! 21 (λ (u : Val). ‵ (fat fullShare word l₆ 0 u)) (ap only (is .0)) refl $ rewrite ! 21 (λ (k : ℕ). ‵ (fat fullShare word l₆ 0 (vint w64 k))) (d .0) refl $
-          move ! (1 ∷ []) $ split ! $ lft-end ! tt $ move ! (0 ∷ 5 ∷ 3 ∷ []) $
+          gives-lent ! tt start.ended (ν ∷ [], (κ₁, tt)) (x δ out, (text, (pl, tt))) usize (λ m zs. (m ≡ at) × (zs .0 ≡ out₁)) (‵ (flft (ν ∷ []) fullShare) ⊛ ‵ (flft κ₁ q₁) ⊛ ‵ ftrue) w (λ m zs d is.
+          land ! (from ! (stop !)) (init ! 20 refl (uint-lawful 𝓤 H A W w64 .typed m _ is .0)) $
+          rewrite ! 20 (λ (u : Val). ‵ (fat fullShare word l₆ 0 u)) (ap only (is .0)) refl $ rewrite ! 20 (λ (k : ℕ). ‵ (fat fullShare word l₆ 0 (vint w64 k))) (d .0) refl $
+          move ! (2 ∷ []) $ fsplit ! $ fsplit ! $ move ! (1 ∷ []) $ feqL ! (λ l. move ! (3 ∷ []) $ split ! $ lft-end ! tt $ move ! (0 ∷ 5 ∷ 2 ∷ []) $
           use3 W (later (‵ (OwnOut (zs .0) (length out)) ⊛ ‵ (flft κ₃ q₃))) (comes-back u8 κ₃ (ν ∷ []) q₃ γ b o 𝓤 H A W (named 2) (named 0) out δ (zs .0) room l) $ await ! tt $ split ! $
-          -- [what the output owns; its token; the text's token; the result's; what is left; what the table owns; the table's token; _13; …]
+          -- [what the output owns; its token; the text's token; what is left; the result's; what the table owns; the table's token; _13; …]
           rewrite ! 0 (λ (z : List ℕ). ‵ (OwnOut z (length out))) (d .1) refl $ rewrite ! 0 (λ (k : ℕ). ‵ (OwnOut out₁ k)) (sym l ∙ ap length (d .1)) refl $ rewrite ! 25 (λ (k : ℕ). ‵ (fat fullShare slice₄ l₄ 0 (s k))) (sym l ∙ ap length (d .1)) refl $
-          move ! (2 ∷ []) $ split ! $ forget ! 14 refl $ forget ! 16 refl $ keep ! (6 ∷ 0 ∷ 7 ∷ 2 ∷ 3 ∷ 8 ∷ 9 ∷ 10 ∷ 11 ∷ 12 ∷ 13 ∷ 14 ∷ 15 ∷ 16 ∷ 17 ∷ 18 ∷ 19 ∷ 20 ∷ 21 ∷ 22 ∷ 23 ∷ 24 ∷ 25 ∷ 26 ∷ 27 ∷ 28 ∷ 29 ∷ 30 ∷ 31 ∷ 32 ∷ 33 ∷ 34 ∷ 35 ∷ []) $ ctabs (sym (ap length (d .1)) ∙ l)))))))))
+          move ! (2 ∷ []) $ split ! $ forget ! 14 refl $ forget ! 16 refl $ keep ! (6 ∷ 0 ∷ 7 ∷ 2 ∷ 3 ∷ 8 ∷ 9 ∷ 10 ∷ 11 ∷ 12 ∷ 13 ∷ 14 ∷ 15 ∷ 16 ∷ 17 ∷ 18 ∷ 19 ∷ 20 ∷ 21 ∷ 22 ∷ 23 ∷ 24 ∷ 25 ∷ 26 ∷ 27 ∷ 28 ∷ 29 ∷ 30 ∷ 31 ∷ 32 ∷ 33 ∷ 34 ∷ 35 ∷ []) $ ctabs (sym (ap length (d .1)) ∙ l))))))
 
     walk : length ts < 2 ^ 64 → ent 𝓤 (onEntry 𝓤 H A group.signature (κ₁, (κ₂, (κ₃, tt))) (q₁, (q₂, (q₃, tt))) a args) (WpFn 𝓤 H C Λ code.function (s₁ ∷ s₂ ∷ vint w64 count ∷ s (length out) ∷ []) Post)
     walk text-fits =
@@ -305,28 +292,21 @@ module _ {M : Type 1} (𝓤 : URA M) (H : Heap 𝓤) (A : Atoms 𝓤) (W : Given
         move ! (2 ∷ 0 ∷ []) $ join ! $ move ! (0 ∷ 6 ∷ 5 ∷ []) $ use3 W (raw (Planning 𝓤 H A mem run .pre to-plan)) (goes-plan (room .0)) $
         -- [what `plan_group` asks; what the table owns; what the text owns; the output's token; true; what the output owns; true; _13; …]
         calls-at ! fm (Planning 𝓤 H A mem run) known-plan to-plan (and-then ! (load ! (from ! (stop !)) (look ! 31 refl)) (and-then ! (load ! (from ! (stop !)) (look ! 29 refl)) (and-then ! (load ! (from ! (stop !)) (look ! 27 refl)) (and-then ! (load ! (from ! (stop !)) (look ! 17 refl)) (no-more !))))) (λ w.
-        use1 W (later (some (λ (p : Plan). ((‵ (flft κ₁ q₁) ⊛ ‵ (flft κ₂ q₂) ⊛ ‵ ftrue) ⊛ ‵ (P.the-row .own p (w ∷ []))) ⊛ raw (ensured 𝓤 H A plan.ended (plan.clauses 𝓤 H A mem run) (κ₁, (κ₂, tt)) (text, (table, (count, (length out, tt)))) tt p)))) (id⊢ 𝓤 _) $ await ! tt $ pick ! (λ p.
-        split ! $ move ! (1 ∷ []) $ use1 W (raw (fact 𝓤 (p ≡ pl))) (said-plan p) $ heard ! (p ≡ pl) (λ e. split ! $ move ! (1 ∷ []) $
-        peeks ! P.the-row (Is P.the-row) (shows 𝓤 H A P.the-row) p (w ∷ []) (λ is. land ! (from ! (stop !)) (init ! 24 refl (LL.lawful P.the-type P.Laws.the-laws 𝓤 H A W .typed p _ is .0)) $
+        gives-back ! tt plan.ended (κ₁, (κ₂, tt)) (text, (table, (count, (length out, tt)))) P.the-row (λ p. p ≡ pl) (‵ (flft κ₁ q₁) ⊛ ‵ (flft κ₂ q₂) ⊛ ‵ ftrue) w (λ p e is. land ! (from ! (stop !)) (init ! 24 refl (LL.lawful P.the-type P.Laws.the-laws 𝓤 H A W .typed p _ is .0)) $
         rewrite ! 24 (λ (u : Val). ‵ (fat fullShare P.Laws.mir l₅ 0 u)) (ap only (LL.tells P.the-type P.Laws.the-laws p _ is)) refl $ rewrite ! 24 (λ (z : Plan). ‵ (fat fullShare P.Laws.mir l₅ 0 (valP z))) e refl $
         drop ! $ split ! $ move ! (1 ∷ []) $ split ! $
         -- [the table's token; true; the text's token; what the table owns; what the text owns; the output's token; true; what the output owns; true; _13; …]
         keep ! (4 ∷ 2 ∷ 3 ∷ 0 ∷ 7 ∷ 5 ∷ 9 ∷ 10 ∷ 11 ∷ 12 ∷ 13 ∷ 14 ∷ 15 ∷ 16 ∷ 17 ∷ 18 ∷ 19 ∷ 20 ∷ 21 ∷ 22 ∷ 23 ∷ 24 ∷ 25 ∷ 26 ∷ 27 ∷ 28 ∷ 29 ∷ 30 ∷ 31 ∷ 32 ∷ 33 ∷ 34 ∷ 35 ∷ 36 ∷ []) $
-        started (subst (λ (z : Plan). Is P.the-row z (valsP z)) e (subst (λ (vs : List Val). Is P.the-row p vs) (LL.tells P.the-type P.Laws.the-laws p _ is) is)) l₀ l₁ l₂ l₃ l₄ l₅ l₆ l₇ l₈ l₉ l₁₀ l₁₁ l₁₂ l₁₃))))))))))))))))))
+        started (subst (λ (z : Plan). Is P.the-row z (valsP z)) e (subst (λ (vs : List Val). Is P.the-row p vs) (LL.tells P.the-type P.Laws.the-laws p _ is) is)) l₀ l₁ l₂ l₃ l₄ l₅ l₆ l₇ l₈ l₉ l₁₀ l₁₁ l₁₂ l₁₃))))))))))))))))
 
-module _ {M : Type 1} (𝓤 : URA M) (H : Heap 𝓤) (A : Atoms 𝓤) (W : Given 𝓤 H A) (mem : Memory → SProp 𝓤) (run : Routine → Fun 𝓤) (𝓣 : Tables 𝓤 H) (known-plan : Triple 𝓤 (𝓣 .C plan.Symbol.name) (Planning 𝓤 H A mem run)) (known-start : Triple 𝓤 (𝓣 .C start.Symbol.name) (Start 𝓤 H A mem run))
-    (known-put : Triple 𝓤 (𝓣 .C put.Symbol.name) (Put 𝓤 H A mem run)) (known-measure : Triple 𝓤 (𝓣 .C measured.Symbol.name) (Measure 𝓤 H A mem run)) where
-  group-walks : Walks 𝓤 H A group.ended stayed (WpFn 𝓤 H (𝓣 .C) (𝓣 .Λ) code.function) (group.clauses 𝓤 H A mem run)
-  group-walks = walked 𝓤 H A group.ended stayed (group.clauses 𝓤 H A mem run) (WpFn 𝓤 H (𝓣 .C) (𝓣 .Λ) code.function)
-      (λ κs. (slice-vals, (slice-vals, (uint-vals w64, (slice-vals, tt))))) (λ κs. (shr-slice-tells (named 0) (κs .0) u8, (shr-slice-tells (named 1) (κs .1 .0) R, (uint-tells w64, (mut-slice-tells (named 2) (κs .1 .1 .0) u8, tt)))))
-      (λ κs qs bounds a g are. via 𝓤 _ (fst∗ 𝓤 _ (emp 𝓤))
-      (walk 𝓤 H A W mem run (κs .0) (κs .1 .0) (κs .1 .1 .0) (qs .0) (qs .1 .0) (qs .1 .1 .0) (a .0) (a .1 .0) (a .1 .1 .0) (are .1 .1 .0 .1) (a .1 .1 .1 .0 .ptr .0) (a .1 .1 .1 .0 .ptr .1) (a .1 .1 .1 .0 .name) (a .1 .1 .1 .0 .now)
-      (𝓣 .C) (𝓣 .Λ) (fmOf 𝓤 H (W .laws) 𝓣) known-plan known-start known-put known-measure (are .1 .0 .0 .1) (are .1 .1 .1 .0 .0 .1) (are .0 .0 .1 .0)))
-
-  group-meets : Meets 𝓤 H A group.signature (WpFn 𝓤 H (𝓣 .C) (𝓣 .Λ) code.function) (group.spec 𝓤 H A mem run)
-  group-meets =
-      walk-meets 𝓤 H A group.ended stayed W (goes-dropped 𝓤 H A W 3 Text yes (λ κs x f. refl), (goes-dropped 𝓤 H A W 3 Table yes (λ κs x f. refl), (goes-dropped 𝓤 H A W 3 Num yes (λ κs x f. refl), (goes-slice 𝓤 H A W 3 2 tt (plain (λ _. u8)), tt)))) (group.clauses 𝓤 H A mem run)
-      (WpFn 𝓤 H (𝓣 .C) (𝓣 .Λ) code.function) (WpFn-mono 𝓤 H (W .laws) 𝓣 code.function) group-walks
+group-meets : {M : Type 1} (𝓤 : URA M) (H : Heap 𝓤) (A : Atoms 𝓤) (W : Given 𝓤 H A) (mem : Memory → SProp 𝓤) (run : Routine → Fun 𝓤) (𝓣 : Tables 𝓤 H)
+    → Triple 𝓤 (𝓣 .C plan.Symbol.name) (Planning 𝓤 H A mem run) → Triple 𝓤 (𝓣 .C start.Symbol.name) (Start 𝓤 H A mem run) → Triple 𝓤 (𝓣 .C put.Symbol.name) (Put 𝓤 H A mem run) → Triple 𝓤 (𝓣 .C measured.Symbol.name) (Measure 𝓤 H A mem run)
+    → Meets 𝓤 H A group.signature (WpFn 𝓤 H (𝓣 .C) (𝓣 .Λ) code.function) (group.spec 𝓤 H A mem run)
+group-meets 𝓤 H A W mem run 𝓣 known-plan known-start known-put known-measure =
+    meets 𝓤 H A group.ended stayed W (goes-dropped 𝓤 H A W 3 Text yes (λ κs x f. refl), (goes-dropped 𝓤 H A W 3 Table yes (λ κs x f. refl), (goes-dropped 𝓤 H A W 3 Num yes (λ κs x f. refl), (goes-slice 𝓤 H A W 3 2 tt (plain (λ _. u8)), tt))))
+    (group.clauses 𝓤 H A mem run) 𝓣 code.function (λ κs. (slice-vals, (slice-vals, (uint-vals w64, (slice-vals, tt))))) (λ κs. (shr-slice-tells (named 0) (κs .0) u8, (shr-slice-tells (named 1) (κs .1 .0) R, (uint-tells w64, (mut-slice-tells (named 2) (κs .1 .1 .0) u8, tt)))))
+    (λ κs qs bounds a _ are. walk 𝓤 H A W mem run (κs .0) (κs .1 .0) (κs .1 .1 .0) (qs .0) (qs .1 .0) (qs .1 .1 .0) (a .0) (a .1 .0) (a .1 .1 .0) (are .1 .1 .0 .1) (a .1 .1 .1 .0 .ptr .0) (a .1 .1 .1 .0 .ptr .1) (a .1 .1 .1 .0 .name) (a .1 .1 .1 .0 .now)
+    (𝓣 .C) (𝓣 .Λ) (fmOf 𝓤 H (W .laws) 𝓣) known-plan known-start known-put known-measure (are .1 .0 .0 .1) (are .1 .1 .1 .0 .0 .1) (are .0 .0 .1 .0))
 
 pub write-group-spec : {M : Type 1} → group.Statement.statement M
 unfolding code.routine tablesOf
