@@ -1,18 +1,20 @@
 -- The number of a refused file is from 1 to 5, its place one of its bytes or its length; a CASM section that is found stands within the file, its body within the limit.
 use Prim.Native.Nat.{ℕ, _+_, _≤_, _<_}
-use mathlib.Core.Path.{_≡_, refl}
-use mathlib.Core.Bool.{Bool, true, false, cond}
+use mathlib.Core.Path.{_≡_, refl, subst}
+use mathlib.Core.Bool.{false}
 use mathlib.Core.List.{List}
 use native.Mathlib.Omega.{arith}
 use lib.Dec.{ltb, leb, eqb}
 use lib.ListN.{length}
 use borrow.Author.Tests.{ltb-false, leb-false}
 use Rattle.layout.specs.Bytes.{word, tagAt, CASM}
-use Rattle.layout.specs.Answers.{refused, granted, afterRun, Span}
-use Rattle.layout.specs.Style.{noStyle, sectionPlace, sectionTagged, sectionTurnAt, sectionTurn, sectionsRun, sectionAt, casmAmong, casmFound}
+use Rattle.layout.specs.Answers.{Answer, refused, granted, afterRun, Span}
+use Rattle.layout.specs.Style.{noStyle, sectionPlace, sectionTagged, sectionTurnAt, sectionTurn, sectionsRun, casmAmong, casmFound}
 use Rattle.layout.specs.declared.turn.Run.{Run}
 use Rattle.layout.specs.declared.turn.Run.the-variants.{Stopped, Ended}
+use Rattle.layout.specs.declared.turn.Turn.{Turn}
 use Rattle.layout.specs.declared.turn.Turn.the-variants.{Refused, More, Done}
+use Rattle.layout.proofs.Choices.{either}
 use Rattle.layout.proofs.Runs.{run-stopped, run-ended}
 use Rattle.read_style.specs.Walk.{Fit, Walked}
 use Rattle.read_style.proofs.StyleLaws.{track-within}
@@ -25,6 +27,11 @@ Refusing s number place = (0 < number) × ((number ≤ 5) × (place ≤ length s
 -- a section whose header and body stand in the file, the body within its limit
 abbrev pub Standing : List ℕ → Span → Type 0
 Standing s x = (x .start + 8 + x .size ≤ length s) × (x .size ≤ 32768)
+
+-- what is known of an answer: how it refuses, or where the section stands
+abbrev Known : List ℕ → Answer Span → Type 0
+Known s (refused number place) = Refusing s number place
+Known s (granted x) = Standing s x
 
 module _ (s : List ℕ) (style : noStyle s ≡ false) where
   abbrev Kept : ℕ → Type 0
@@ -40,90 +47,51 @@ module _ (s : List ℕ) (style : noStyle s ≡ false) where
   unfolding sectionPlace
   start = walk-start s (22 + word s 18) refl (track-within s style)
 
-  turn-refuses : (n at number place : ℕ) → at ≤ length s → sectionTurnAt s n at ≡ Refused number place → Refusing s number place
+  abbrev Turned : Turn → Type 0
+  Turned (Refused number place) = Refusing s number place
+  Turned More = Unit {0}
+  Turned Done = Unit {0}
+
+  turn-known : (n at : ℕ) → at ≤ length s → Turned (sectionTurnAt s n at)
   unfolding sectionTurnAt
-  turn-refuses n at number place l m =
-      go (eqb at (length s)) (ltb (length s) (at + 8)) (ltb (length s) (at + 8 + word s (at + 4))) (ltb (sectionTagged s n (tagAt s at)) n) m
-    where
-      go : (a b c d : Bool) → cond a Done (cond b (Refused 2 at) (cond c (Refused 2 at) (cond d (Refused 4 at) More))) ≡ Refused number place → Refusing s number place
-      go true b c d q = absurd (let z : _≡_ {A = ℕ} 0 1 = cc in omega arith)
-      go false true c d q = let y : 2 ≡ number = cc in let z : at ≡ place = cc in (omega arith, (omega arith, omega arith))
-      go false false true d q = let y : 2 ≡ number = cc in let z : at ≡ place = cc in (omega arith, (omega arith, omega arith))
-      go false false false true q = let y : 4 ≡ number = cc in let z : at ≡ place = cc in (omega arith, (omega arith, omega arith))
-      go false false false false q = absurd (let z : _≡_ {A = ℕ} 0 1 = cc in omega arith)
+  turn-known n at l =
+      either Turned (eqb at (length s)) _ _ (λ _. tt) (λ _.
+      either Turned (ltb (length s) (at + 8)) _ _ (λ _. (omega arith, (omega arith, l))) (λ _.
+      either Turned (ltb (length s) (at + 8 + word s (at + 4))) _ _ (λ _. (omega arith, (omega arith, l))) (λ _.
+      either Turned (ltb (sectionTagged s n (tagAt s at)) n) _ _ (λ _. (omega arith, (omega arith, l))) (λ _. tt))))
 
   sections-refuse : (number place : ℕ) → sectionsRun s ≡ Stopped number place → Refusing s number place
   unfolding sectionsRun sectionTurn
   sections-refuse number place e =
-      run-stopped (sectionTurn s) Kept next (λ a b. Refusing s a b) (λ n a b held m. turn-refuses n (sectionPlace s n) a b (held .within) m) (length s) number place start e
+      run-stopped (sectionTurn s) Kept next (λ a b. Refusing s a b) (λ n a b held m. subst Turned m (turn-known n (sectionPlace s n) (held .within))) (length s) number place start e
 
   sections-fit : (n : ℕ) → sectionsRun s ≡ Ended n → Fit s n
   unfolding sectionsRun
   sections-fit n e = run-ended (sectionTurn s) Kept next (length s) n start e .0 .fit
 
   -- what the sections come to, once they end
-  among-refuses : (n number place : ℕ) → Fit s n → casmAmong s n ≡ refused number place → Refusing s number place
+  among-known : (n : ℕ) → Fit s n → Known s (casmAmong s n)
   unfolding casmAmong
-  among-refuses n number place fit q = go (leb n (sectionTagged s n CASM)) refl q
-    where
-      at : ℕ
-      at = sectionPlace s (sectionTagged s n CASM)
+  among-known n fit =
+      let k : ℕ = sectionTagged s n CASM in
+      let at : ℕ = sectionPlace s k in
+      either (Known s) (leb n k) _ _ (λ _. (omega arith, (omega arith, omega arith))) (λ e.
+      let stands = fit .fits k (leb-false n k e) in
+      either (Known s) (ltb 32768 (word s (at + 4))) _ _ (λ _. (omega arith, (omega arith, omega arith))) (λ l. (stands, ltb-false 32768 (word s (at + 4)) l)))
 
-      go : (a : Bool) → leb n (sectionTagged s n CASM) ≡ a
-          → cond a (refused 5 (length s)) (cond (ltb 32768 (word s (at + 4))) (refused 3 at) (granted (sectionAt s at))) ≡ refused number place → Refusing s number place
-      go true e w = let y : 5 ≡ number = cc in let z : length s ≡ place = cc in (omega arith, (omega arith, omega arith))
-      go false e w = over (ltb 32768 (word s (at + 4))) w
-        where
-          over : (b : Bool) → cond b (refused 3 at) (granted (sectionAt s at)) ≡ refused number place → Refusing s number place
-          over true v =
-              let y : 3 ≡ number = cc in
-              let z : at ≡ place = cc in
-              (omega arith, (omega arith, omega (arith, fit .fits (sectionTagged s n CASM) (leb-false n (sectionTagged s n CASM) e))))
-          over false v = absurd (let z : _≡_ {A = ℕ} 0 1 = cc in omega arith)
-
-  after-refuses : (number place : ℕ) (r : Run) → sectionsRun s ≡ r → afterRun r (casmAmong s) ≡ refused number place → Refusing s number place
+  after-known : (r : Run) → sectionsRun s ≡ r → Known s (afterRun r (casmAmong s))
   unfolding afterRun
-  after-refuses number place (Stopped a b) e q = let y : a ≡ number = cc in let z : b ≡ place = cc in rw (← y, ← z) (sections-refuse a b e)
-  after-refuses number place (Ended n) e q = among-refuses n number place (sections-fit n e) q
+  after-known (Stopped a b) e = sections-refuse a b e
+  after-known (Ended n) e = among-known n (sections-fit n e)
+
+casm-known : (s : List ℕ) → Known s (casmFound s)
+unfolding casmFound
+casm-known s =
+    either (Known s) (ltb 1048576 (length s)) _ _ (λ _. (omega arith, (omega arith, omega arith))) (λ _.
+    either (Known s) (noStyle s) _ _ (λ _. (omega arith, (omega arith, omega arith))) (λ e. after-known s e (sectionsRun s) refl))
 
 pub casm-refuses : (s : List ℕ) (number place : ℕ) → casmFound s ≡ refused number place → Refusing s number place
-unfolding casmFound
-casm-refuses s number place q = go (ltb 1048576 (length s)) (noStyle s) refl q
-  where
-    go : (a b : Bool) → noStyle s ≡ b → cond a (refused 3 0) (cond b (refused 1 0) (afterRun (sectionsRun s) (casmAmong s))) ≡ refused number place → Refusing s number place
-    go true b e w = let y : 3 ≡ number = cc in let z : 0 ≡ place = cc in (omega arith, (omega arith, omega arith))
-    go false true e w = let y : 1 ≡ number = cc in let z : 0 ≡ place = cc in (omega arith, (omega arith, omega arith))
-    go false false e w = after-refuses s e number place (sectionsRun s) refl w
+casm-refuses s number place q = subst (Known s) q (casm-known s)
 
--- ---- where it is found
-
-module _ (s : List ℕ) (x : Span) where
-  among-stands : (n : ℕ) → Fit s n → casmAmong s n ≡ granted x → Standing s x
-  unfolding casmAmong
-  among-stands n fit q = go (leb n (sectionTagged s n CASM)) refl q
-    where
-      at : ℕ
-      at = sectionPlace s (sectionTagged s n CASM)
-
-      go : (a : Bool) → leb n (sectionTagged s n CASM) ≡ a
-          → cond a (refused 5 (length s)) (cond (ltb 32768 (word s (at + 4))) (refused 3 at) (granted (sectionAt s at))) ≡ granted x → Standing s x
-      go true e w = absurd (let z : _≡_ {A = ℕ} 0 1 = cc in omega arith)
-      go false e w = over (ltb 32768 (word s (at + 4))) refl w
-        where
-          over : (b : Bool) → ltb 32768 (word s (at + 4)) ≡ b → cond b (refused 3 at) (granted (sectionAt s at)) ≡ granted x → Standing s x
-          over true l v = absurd (let z : _≡_ {A = ℕ} 0 1 = cc in omega arith)
-          over false l v = let z : sectionAt s at ≡ x = cc in rw (← z) (fit .fits (sectionTagged s n CASM) (leb-false n (sectionTagged s n CASM) e), ltb-false 32768 (word s (at + 4)) l)
-
-  after-stands : noStyle s ≡ false → (r : Run) → sectionsRun s ≡ r → afterRun r (casmAmong s) ≡ granted x → Standing s x
-  unfolding afterRun
-  after-stands style (Stopped a b) e q = absurd (let z : _≡_ {A = ℕ} 0 1 = cc in omega arith)
-  after-stands style (Ended n) e q = among-stands n (sections-fit s style n e) q
-
-  pub casm-stands : casmFound s ≡ granted x → Standing s x
-  unfolding casmFound
-  casm-stands q = go (ltb 1048576 (length s)) (noStyle s) refl q
-    where
-      go : (a b : Bool) → noStyle s ≡ b → cond a (refused 3 0) (cond b (refused 1 0) (afterRun (sectionsRun s) (casmAmong s))) ≡ granted x → Standing s x
-      go true b e w = absurd (let z : _≡_ {A = ℕ} 0 1 = cc in omega arith)
-      go false true e w = absurd (let z : _≡_ {A = ℕ} 0 1 = cc in omega arith)
-      go false false e w = after-stands e (sectionsRun s) refl w
+pub casm-stands : (s : List ℕ) (x : Span) → casmFound s ≡ granted x → Standing s x
+casm-stands s x q = subst (Known s) q (casm-known s)
