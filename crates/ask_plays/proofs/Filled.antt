@@ -13,7 +13,6 @@ use Rattle.layout.specs.declared.record.SourceChannel.{SourceChannel}
 use Rattle.layout.specs.Group.{ctabPlace}
 use Rattle.layout.specs.Answers.{granted, numberOf, placeOf, valueOr}
 use Rattle.layout.specs.Plays.{noChannel, inSixteen, played}
-use Rattle.read_find.proofs.Search as searched
 use Rattle.ask_plays.specs.PlaysAt.{playsAt, sourceAt, playerAt, playersAt}
 
 -- ---- the sixteen places

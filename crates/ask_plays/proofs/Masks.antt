@@ -1,5 +1,5 @@
 -- The two masks of a record where they stand.
-use Prim.Native.Nat.{ℕ, _+_, _*_, _-_, _/_, _%_, _^_}
+use Prim.Native.Nat.{ℕ, _+_, _*_, _/_, _%_, _^_}
 use native.Mathlib.Omega.{arith}
 use native.Mathlib.Nat.{add-zero}
 use mathlib.Core.Path.{_≡_}
@@ -10,8 +10,6 @@ use lib.ListN.{getD}
 use borrow.Author.Tests.{eq-eqb, ne-eqb}
 use Rattle.layout.specs.Bytes.{number, word}
 use Rattle.layout.specs.Plays.{bit}
-use Rattle.read_find.proofs.Search as searched
-use Rattle.read_find.specs.declared.Search.{Search}
 use Rattle.ask_plays.specs.PlaysAt.{playsAt}
 
 -- ---- the masks of the record whose byte 0 stands at `at`

@@ -149,9 +149,12 @@ counts-small s at x y h l =
     let g = group-sound-is (drop at s) First (word s (at + 12)) x y h in
     (omega (arith, g .size, g .within, length-drop at s), omega (arith, g .size, g .within, length-drop at s))
 
--- a turn that goes on: the group is one of 32, and it and its text stand within the body
-pub more-within : (s : List ℕ) (n at : ℕ) (r : Turned) (table : List ℕ) → GroupTurned s n at r table → at ≡ groupPlace s n → at ≤ length s → r .turn ≡ More
-    → (n < 32) × ((at + 8 + word s (at + 4) ≤ length s) × (at + 16 + word s (at + 12) ≤ length s))
+-- the group is one of 32, and it and its text stand within the body
+abbrev pub Fitting : List ℕ → ℕ → ℕ → Type 0
+Fitting s n at = (n < 32) × ((at + 8 + word s (at + 4) ≤ length s) × (at + 16 + word s (at + 12) ≤ length s))
+
+-- so it is where a turn goes on
+pub more-within : (s : List ℕ) (n at : ℕ) (r : Turned) (table : List ℕ) → GroupTurned s n at r table → at ≡ groupPlace s n → at ≤ length s → r .turn ≡ More → Fitting s n at
 unfolding groupTurn
 more-within s n at r table turned here h m =
     let g = group-there s n at First (word s (at + 12)) (r .records) (r .seconds) h (turned .sound m) in

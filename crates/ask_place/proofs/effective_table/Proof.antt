@@ -6,9 +6,6 @@ use borrow.Author.Needs.{needs}
 use Rattle.ask_place.proofs.effective_table.Statement.{statement}
 use Rattle.ask_place.proofs.effective_table.Tie as tie
 
-enum-told : tie.Need-enum-told
-enum-told c = search needs
-
 returns : tie.Need-returns
 unfolding effective
 returns c = sym (ap (λ (s : SecondTable). effective s (c .before .before .before .args .table)) (c .before .second .given .1))
@@ -19,4 +16,4 @@ returns-2 c = sym (ap (λ (s : SecondTable). effective s (c .before .before .arg
 
 pub effective-table-spec : {M : Type 1} → statement M
 effective-table-spec =
-    tie.close (tie.spec (λ c. search needs) enum-told (λ c. search needs) returns returns-2)
+    tie.close (tie.spec (λ c. search needs) (λ c. search needs) (λ c. search needs) returns returns-2)

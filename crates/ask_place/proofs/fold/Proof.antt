@@ -59,12 +59,6 @@ raised-near c = omega (arith, remainder-small (past-low c))
 lowered-near : (c : tie.Start) → mag (pos (c .args .high) -ℤ pos (remainder (past-high c))) < 65536
 lowered-near c = omega (arith, remainder-small (past-high c), mag-sub (pos (c .args .high)) (pos (remainder (past-high c))))
 
-sub-octave-remainder : tie.Need-sub-octave-remainder
-sub-octave-remainder c = let s = c .before in rw (v-reads s, l-reads s) (fits (past-low s) (omega (arith, low-near s)))
-
-octave-remainder-requires : tie.Need-octave-remainder-requires
-octave-remainder-requires c κs = let s = c .before in rw (v-reads s, l-reads s, low-reads s) (low-near s)
-
 add-result : tie.Need-add-result
 add-result c =
     let s = c .before .before in
@@ -75,12 +69,6 @@ returns c =
     let s = c .before .before in
     rw (l-reads s, raised c, reads-back (pos (s .args .low) +ℤ pos (remainder (past-low s))) (raised-near s))
     (sym (fold-below (s .args .value) (s .args .low) (s .args .high) (rw (v-reads s, l-reads s) at (c .before .if1 .taken))))
-
-sub-octave-remainder-2 : tie.Need-sub-octave-remainder-2
-sub-octave-remainder-2 c = let s = c .before .before in rw (v-reads s, h-reads s) (fits (past-high s) (omega (arith, high-near s)))
-
-octave-remainder-requires-2 : tie.Need-octave-remainder-requires-2
-octave-remainder-requires-2 c κs = let s = c .before .before in rw (v-reads s, h-reads s, high-reads s) (high-near s)
 
 sub-result : tie.Need-sub-result
 sub-result c =
@@ -105,12 +93,12 @@ fold-spec =
     (tie.spec
     (λ c. search needs)
     (λ c. search needs)
-    sub-octave-remainder
-    octave-remainder-requires
+    (λ c. let s = c .before in rw (v-reads s, l-reads s) (fits (past-low s) (omega (arith, low-near s))))
+    (λ c κs. let s = c .before in rw (v-reads s, l-reads s, low-reads s) (low-near s))
     add-result
     returns
-    sub-octave-remainder-2
-    octave-remainder-requires-2
+    (λ c. let s = c .before .before in rw (v-reads s, h-reads s) (fits (past-high s) (omega (arith, high-near s))))
+    (λ c κs. let s = c .before .before in rw (v-reads s, h-reads s, high-reads s) (high-near s))
     sub-result
     returns-2
     returns-3)

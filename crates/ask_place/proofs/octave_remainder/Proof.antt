@@ -24,12 +24,6 @@ module _ (c : tie.Start) where
   near : mag (m +ℤ pos 12) < 65536
   near = omega (arith, rem-small (c .args .x), mag-add m (pos 12))
 
-rem-m : tie.Need-rem-m
-rem-m c = rw (x-reads c) (omega arith, fits (quotZ (c .args .x) (pos 12)) (omega (arith, quot-small (c .args .x))))
-
-add-result : tie.Need-add-result
-add-result c = let s = c .before in rw (x-reads s, m-reads s) (fits (m s +ℤ pos 12) (near s))
-
 returns : tie.Need-returns
 returns c =
     let s = c .before in
@@ -41,4 +35,4 @@ returns-2 c =
     rw (x-reads s, m-reads s) (rem-above (s .args .x) (rw (x-reads s, m-reads s) at (c .if1 .left)))
 
 pub octave-remainder-spec : {M : Type 1} → statement M
-octave-remainder-spec = tie.close (tie.spec rem-m add-result returns returns-2)
+octave-remainder-spec = tie.close (tie.spec (λ c. rw (x-reads c) (omega arith, fits (quotZ (c .args .x) (pos 12)) (omega (arith, quot-small (c .args .x))))) (λ c. let s = c .before in rw (x-reads s, m-reads s) (fits (m s +ℤ pos 12) (near s))) returns returns-2)

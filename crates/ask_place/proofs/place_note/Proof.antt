@@ -35,9 +35,6 @@ is-bypass-requires c κs =
     let b = c .before in
     omega (arith, in-its-range (b .before .before .before .args .r) 21 (rw (← b .first-bad .ensures) (c .if3 .left)) (omega arith))
 
-hear-requires : tie.Need-hear-requires
-hear-requires c κs = rw (u8-reads (c .before .before .before .before .before .before .args .note) (omega arith)) (omega arith)
-
 returns-4 : tie.Need-returns-4
 returns-4 c =
     let p = c .before .before in
@@ -76,12 +73,6 @@ module _ (c : tie.After-shift-to) where
   value-reads : toZ w32 (ofZ w32 (pos note +ℤ c .shift-to .result)) ≡ pos note +ℤ c .shift-to .result
   value-reads = reads-back (pos note +ℤ c .shift-to .result) (omega (arith, near))
 
-add-hear : tie.Need-add-hear
-add-hear c = rw (note-reads c, shift-reads c) (fits (pos (note c) +ℤ c .shift-to .result) (omega (arith, near c)))
-
-hear-requires-2 : tie.Need-hear-requires-2
-hear-requires-2 c κs = rw (note-reads c, shift-reads c, value-reads c) (near c)
-
 returns-6 : tie.Need-returns-6
 returns-6 c =
     let s = c .before in
@@ -106,12 +97,12 @@ place-note-spec =
     returns-3
     is-bypass-requires
     (λ c. search needs)
-    hear-requires
+    (λ c κs. rw (u8-reads (c .before .before .before .before .before .before .args .note) (omega arith)) (omega arith))
     returns-4
     (λ c κs. search needs)
     returns-5
     shift-to-requires
     (λ c. search needs)
-    add-hear
-    hear-requires-2
+    (λ c. rw (note-reads c, shift-reads c) (fits (pos (note c) +ℤ c .shift-to .result) (omega (arith, near c))))
+    (λ c κs. rw (note-reads c, shift-reads c, value-reads c) (near c))
     returns-6)

@@ -31,9 +31,6 @@ sub-shift c =
     let s = c .before in
     rw (u8-reads (s .args .root) (omega arith), u8-reads (s .args .r .root) (omega arith)) (fits (apart s) (omega (arith, near s)))
 
-sub-result : tie.Need-sub-result
-sub-result c = let s = c .before .before in rw (apart-reads s) (fits (apart s -ℤ pos 12) (omega (arith, lower-near s)))
-
 returns : tie.Need-returns
 returns c =
     let s = c .before .before in
@@ -46,4 +43,4 @@ returns-2 c =
     rw (apart-reads s) (sym (shift-plain (s .args .r) (s .args .root) (search needs) (c .if1 .left)), omega (arith, near s))
 
 pub shift-to-spec : {M : Type 1} → statement M
-shift-to-spec = tie.close (tie.spec (λ c. search needs) (λ c. search needs) sub-shift sub-result returns returns-2)
+shift-to-spec = tie.close (tie.spec (λ c. search needs) (λ c. search needs) sub-shift (λ c. let s = c .before .before in rw (apart-reads s) (fits (apart s -ℤ pos 12) (omega (arith, lower-near s)))) returns returns-2)

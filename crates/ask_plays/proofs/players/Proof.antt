@@ -49,9 +49,6 @@ shared-slice-read-t16 c =
     let a = l .before .before .before in
     omega (arith, p .ctab-place .ensures, row-fits (a .args .edition) (a .args .p) (l .before .loop .i) (a .args .n) (length (a .args .s .now)) (l .loop-test .taken) (a .pre .0))
 
-array-set-from-channels : tie.Need-array-set-from-channels Inv-loop μ-loop
-array-set-from-channels c = filled-room _ _ _ _ _ _ _ _ (c .before .before .before .before .before .loop .inv .1) (omega arith)
-
 add-count : tie.Need-add-count Inv-loop μ-loop
 add-count c =
     let l = c .before .before .before .before .before .loop in
@@ -81,7 +78,7 @@ players-spec =
     (λ c. search needs)
     loop-again
     shared-slice-read-t16
-    array-set-from-channels
+    (λ c. filled-room _ _ _ _ _ _ _ _ (c .before .before .before .before .before .loop .inv .1) (omega arith))
     add-count
     (λ c. search needs)
     loop-again-2

@@ -2,6 +2,7 @@
 use mathlib.Core.Path.{refl}
 use native.Mathlib.Omega.{arith}
 use Rattle.layout.specs.Listing.{refusedLine}
+use Rattle.read_style.proofs.PlaceLaws.{Standing}
 use Rattle.list_text.proofs.Texts.{file-listed, text-over, text-refused, stands, body-length, text-found}
 use borrow.Author.Needs.{needs}
 use Rattle.list_text.proofs.list_file.Statement.{statement}
@@ -19,34 +20,17 @@ returns-2 c =
     let a = f .before .before .before .before .args in
     file-listed (a .file .now) (a .out .now) _ _ _ (text-refused (a .file .now) (f .before .if1 .left) (f .find-casm .result) (f .find-casm .ensures) (t .if2 .taken)) (c .put-refused2 .ensures)
 
-add-start : tie.Need-add-start
-add-start c =
-    let f = c .before .before in
-    let a = f .before .before .before .before .args in
-    omega (arith, stands (a .file .now) (f .before .if1 .left) (f .find-casm .result) (f .find-casm .ensures) (c .if2 .left) .0)
-
-add-end : tie.Need-add-end
-add-end c =
-    let e = c .before in
-    let f = e .before .before in
-    let a = f .before .before .before .before .args in
-    omega (arith, stands (a .file .now) (f .before .if1 .left) (f .find-casm .result) (f .find-casm .ensures) (e .if2 .left) .0)
-
-part-list-body-end : tie.Need-part-list-body-end
-part-list-body-end c =
-    let e = c .before in
-    let f = e .before .before in
-    let a = f .before .before .before .before .args in
-    omega (arith, stands (a .file .now) (f .before .if1 .left) (f .find-casm .result) (f .find-casm .ensures) (e .if2 .left) .0)
+-- the section that was found stands within the file
+within : (c : tie.Else2) → let f = c .before .before in let r = f .find-casm .result in Standing (f .before .before .before .before .args .file .now) (record { start = r .tag; size = r .length })
+within c = let f = c .before .before in stands (f .before .before .before .before .args .file .now) (f .before .if1 .left) (f .find-casm .result) (f .find-casm .ensures) (c .if2 .left)
 
 list-body-requires : tie.Need-list-body-requires
 list-body-requires c κs =
     let e = c .before .before in
     let f = e .before .before in
     let a = f .before .before .before .before .args in
-    let s = stands (a .file .now) (f .before .if1 .left) (f .find-casm .result) (f .find-casm .ensures) (e .if2 .left) in
     let l = body-length (a .file .now) (f .before .if1 .left) (f .find-casm .result) (f .find-casm .ensures) (e .if2 .left) _ refl in
-    (search needs, omega (arith, s .1, l))
+    (search needs, omega (arith, within e .1, l))
 
 returns-3 : tie.Need-returns-3
 returns-3 c =
@@ -64,10 +48,10 @@ list-file-spec =
     (λ c κs. search needs)
     (λ c κs. search needs)
     returns-2
-    add-start
-    add-end
+    (λ c. omega (arith, within c .0))
+    (λ c. omega (arith, within (c .before) .0))
     (λ c. search needs)
     (λ c. search needs)
-    part-list-body-end
+    (λ c. omega (arith, within (c .before) .0))
     list-body-requires
     returns-3)

@@ -1,6 +1,8 @@
 -- The numbers of a sound group, which stands within the body.
-use Prim.Native.Nat.{_+_}
+use Prim.Native.Nat.{_+_, _*_, _≤_}
+use mathlib.Core.Path.{_≡_}
 use native.Mathlib.Omega.{arith}
+use lib.ListN.{length}
 use Rattle.layout.specs.Bytes.{word}
 use Rattle.layout.specs.declared.edition.Edition.the-variants.{First}
 use Rattle.layout.proofs.Bodies.{group-there}
@@ -9,23 +11,11 @@ use borrow.Author.Needs.{needs}
 use Rattle.read_find.proofs.standing_at.Statement.{statement}
 use Rattle.read_find.proofs.standing_at.Tie as tie
 
-word-at-requires : tie.Need-word-at-requires
-word-at-requires c κs =
-    let a = c .before in
-    let g = group-there (a .args .s .now) 0 (a .args .at) First (word (a .args .s .now) (a .args .at + 12)) (a .args .records) (a .args .seconds) (a .pre .0) (a .pre .1) in
-    omega (arith, g .1 .0, g .1 .1)
-
-word-at-requires-2 : tie.Need-word-at-requires-2
-word-at-requires-2 c κs =
-    let a = c .before .before in
-    let g = group-there (a .args .s .now) 0 (a .args .at) First (word (a .args .s .now) (a .args .at + 12)) (a .args .records) (a .args .seconds) (a .pre .0) (a .pre .1) in
-    omega (arith, g .1 .0, g .1 .1)
-
-ctab-place-requires : tie.Need-ctab-place-requires
-ctab-place-requires c κs =
-    let a = c .before .before .before in
-    let g = group-there (a .args .s .now) 0 (a .args .at) First (word (a .args .s .now) (a .args .at + 12)) (a .args .records) (a .args .seconds) (a .pre .0) (a .pre .1) in
-    omega (arith, g .1 .0, g .1 .1, c .before .word-at .ensures .0)
+-- the group's parts fill it, and it stands within the body
+there : (c : tie.Start)
+    → let a = c .args in
+    let s = a .s .now in (8 + word s (a .at + 4) ≡ 16 + word s (a .at + 12) + 35 * a .records + 10 * a .seconds) × (a .at + 8 + word s (a .at + 4) ≤ length s)
+there c = let a = c .args in group-there (a .s .now) 0 (a .at) First (word (a .s .now) (a .at + 12)) (a .records) (a .seconds) (c .pre .0) (c .pre .1) .1
 
 returns : tie.Need-returns
 returns c =
@@ -37,12 +27,12 @@ standing-at-spec =
     tie.close
     (tie.spec
     (λ c. search needs)
-    word-at-requires
+    (λ c κs. omega (arith, there (c .before)))
     (λ c. search needs)
     (λ c. search needs)
     (λ c. search needs)
-    word-at-requires-2
+    (λ c κs. omega (arith, there (c .before .before)))
     (λ c. search needs)
     (λ c. search needs)
-    ctab-place-requires
+    (λ c κs. omega (arith, there (c .before .before .before), c .before .word-at .ensures .0))
     returns)

@@ -20,9 +20,6 @@ loop-holds c =
     let p = c .before .before .pre in
     (omega arith, passing-start _ _ _ _ _ (text-there _ _ _ _ refl (p .1 .1 .1 .0)) (p .1 .1 .0))
 
-meet-requires : tie.Need-meet-requires Inv-loop μ-loop
-meet-requires c κs = (c .before .before .before .before .before .loop .inv .1 .known .size, c .mark-of .ensures .1)
-
 is-taken-requires : tie.Need-is-taken-requires Inv-loop μ-loop
 is-taken-requires c κs =
     let p = c .before .before .before .before .before .before .before .before .before .pre in
@@ -60,7 +57,7 @@ is-named-before-spec =
     (λ c. search needs)
     (λ c. search needs)
     (λ c κs. search needs)
-    meet-requires
+    (λ c κs. (c .before .before .before .before .before .loop .inv .1 .known .size, c .mark-of .ensures .1))
     is-taken-requires
     returns
     (λ c. search needs)

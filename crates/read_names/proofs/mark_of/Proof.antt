@@ -24,9 +24,6 @@ loop-again c =
     let l = c .before .before .before .loop in
     (omega arith, (omega arith, l .inv .1 .1 ∙ mark-next (a .name .now) (l .m) (l .k) (c .wide .result) (omega arith) (c .wide .ensures .0)))
 
-spread-of-requires : tie.Need-spread-of-requires Inv-loop μ-loop
-spread-of-requires c κs = c .before .loop .inv .1 .0
-
 returns : tie.Need-returns Inv-loop μ-loop
 returns c =
     let a = c .before .before .before .before .args in
@@ -47,5 +44,5 @@ mark-of-spec =
     (λ c. search needs)
     (λ c. search needs)
     loop-again
-    spread-of-requires
+    (λ c κs. c .before .loop .inv .1 .0)
     returns)

@@ -26,9 +26,6 @@ loop-again c =
     let l = p .before .before .before .before in
     filling-turn _ _ _ _ _ _ _ _ (l .loop .inv) (p .before .before .entry-at .ensures) (l .before .before .before .pre) _ (p .put-entry .ensures)
 
-same-length : tie.Need-same-length Inv-loop μ-loop
-same-length c = c .before .loop .inv .long
-
 returns : tie.Need-returns Inv-loop μ-loop
 returns c = filling-end _ _ _ _ _ _ (c .before .loop .inv) (search needs)
 
@@ -45,5 +42,5 @@ entries-spec =
     (λ c. search needs)
     (λ c. search needs)
     loop-again
-    same-length
+    (λ c. c .before .loop .inv .long)
     returns)

@@ -16,9 +16,6 @@ returns c =
     let a = c .before .before .before .args in
     (sym (le-leb (length (salvage (a .body .now))) (length (a .list .now) / 3) (omega (arith, few (a .body .now)))), refl)
 
-entries-requires : tie.Need-entries-requires
-entries-requires c κs e = absurd (let z : _≡_ {A = ℕ} 0 1 = cc in omega arith)
-
 returns-2 : tie.Need-returns-2
 returns-2 c =
     let f = c .before .before in
@@ -26,4 +23,4 @@ returns-2 c =
     (ap (λ (n : ℕ). leb n (length (a .list .now) / 3)) (f .entries .ensures .0), f .entries .ensures .1)
 
 pub fits-spec : {M : Type 1} → statement M
-fits-spec = tie.close (tie.spec returns entries-requires (λ c. search needs) returns-2)
+fits-spec = tie.close (tie.spec returns (λ c κs e. absurd (let z : _≡_ {A = ℕ} 0 1 = cc in omega arith)) (λ c. search needs) returns-2)

@@ -15,9 +15,6 @@ returns c = c .refusal .ensures ∙ ap located (sym (file-over _ (omega arith)))
 returns-2 : tie.Need-returns-2
 returns-2 c = c .refusal2 .ensures ∙ ap located (sym (no-style _ (omega arith) (sym (c .before .before .is-no-style .ensures) ∙ c .before .if2 .taken)))
 
-read-sections-requires : tie.Need-read-sections-requires
-read-sections-requires c κs = track-within _ (sym (c .before .is-no-style .ensures) ∙ c .if2 .left)
-
 returns-3 : tie.Need-returns-3
 returns-3 c =
     let d = c .before .before in
@@ -78,7 +75,7 @@ find-casm-spec =
     (λ c κs. search needs)
     (λ c κs. search needs)
     returns-2
-    read-sections-requires
+    (λ c κs. track-within _ (sym (c .before .is-no-style .ensures) ∙ c .if2 .left))
     (λ c. search needs)
     (λ c κs. search needs)
     returns-3

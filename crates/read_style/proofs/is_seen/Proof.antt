@@ -1,9 +1,10 @@
 -- What is still to be looked at are the sections from number k on, which stands at `place`. k goes up.
-use Prim.Native.Nat.{_-_, _≤_}
+use Prim.Native.Nat.{_+_, _-_, _≤_}
 use mathlib.Core.Path.{_≡_, refl, sym}
 use native.Mathlib.Omega.{arith}
+use lib.ListN.{length}
 use Rattle.layout.specs.Scan.{first}
-use Rattle.layout.specs.Bytes.{four}
+use Rattle.layout.specs.Bytes.{word, four}
 use Rattle.layout.specs.Style.{sectionPlace, sectionTagged}
 use Rattle.read_style.proofs.SectionLaws.{hasTag, place-start, place-next, fit-at, seen-here, seen-next, seen-none}
 use borrow.Author.Needs.{needs}
@@ -21,36 +22,15 @@ loop-holds : tie.Need-loop-holds Inv-loop μ-loop
 unfolding sectionTagged
 loop-holds c = (omega arith, (place-start _ _ (c .before .pre .0), refl))
 
-word-at-requires : tie.Need-word-at-requires Inv-loop μ-loop
-word-at-requires c κs =
-    let l = c .before .loop in
-    omega (arith, fit-at _ (l .k) _ (l .inv .1 .0) _ (c .before .before .before .pre .1 .0) (omega arith))
+-- section number k stands within the file
+fits : (c : tie.In-loop Inv-loop μ-loop) → let l = c .before .loop in let s = c .before .before .before .args .file .now in l .place + 8 + word s (l .place + 4) ≤ length s
+fits c = let l = c .before .loop in fit-at _ (l .k) _ (l .inv .1 .0) _ (c .before .before .before .pre .1 .0) (c .loop-test .taken)
 
 returns : tie.Need-returns Inv-loop μ-loop
 returns c =
     let l = c .before .before .before .loop in
     let p = c .before .before .before .before .before .pre in
     sym (seen-here _ _ _ _ (l .inv .1 .1) _ _ (l .inv .1 .0) (c .before .word-at .ensures .1 .0) (c .before .word-at .ensures .1 .1) (p .1 .1) (omega arith) (c .if1 .taken))
-
-add-place : tie.Need-add-place Inv-loop μ-loop
-add-place c =
-    let l = c .before .before .before .loop in
-    omega (arith, fit-at _ (l .k) _ (l .inv .1 .0) _ (c .before .before .before .before .before .pre .1 .0) (omega arith))
-
-add-word-at : tie.Need-add-word-at Inv-loop μ-loop
-add-word-at c =
-    let l = c .before .before .before .loop in
-    omega (arith, fit-at _ (l .k) _ (l .inv .1 .0) _ (c .before .before .before .before .before .pre .1 .0) (omega arith))
-
-word-at-requires-2 : tie.Need-word-at-requires-2 Inv-loop μ-loop
-word-at-requires-2 c κs =
-    let l = c .before .before .before .loop in
-    omega (arith, fit-at _ (l .k) _ (l .inv .1 .0) _ (c .before .before .before .before .before .pre .1 .0) (omega arith))
-
-add-place-2 : tie.Need-add-place-2 Inv-loop μ-loop
-add-place-2 c =
-    let l = c .before .before .before .before .loop in
-    omega (arith, fit-at _ (l .k) _ (l .inv .1 .0) _ (c .before .before .before .before .before .before .pre .1 .0) (omega arith), c .word-at2 .ensures .0)
 
 loop-again : tie.Need-loop-again Inv-loop μ-loop
 loop-again c =
@@ -74,12 +54,12 @@ is-seen-spec =
     Inv-loop
     μ-loop
     loop-holds
-    word-at-requires
+    (λ c κs. omega (arith, fits c))
     returns
-    add-place
-    add-word-at
-    word-at-requires-2
-    add-place-2
+    (λ c. omega (arith, fits (c .before .before)))
+    (λ c. omega (arith, fits (c .before .before)))
+    (λ c κs. omega (arith, fits (c .before .before)))
+    (λ c. omega (arith, fits (c .before .before .before), c .word-at2 .ensures .0))
     (λ c. search needs)
     (λ c. search needs)
     loop-again

@@ -23,9 +23,6 @@ loop-holds : tie.Need-loop-holds Inv-loop μ-loop
 unfolding sectionsRun
 loop-holds c = (walk-start _ _ (omega (arith, c .word-at .ensures .0)) (c .before .before .pre), (casm-start _, refl))
 
-section-turn-requires : tie.Need-section-turn-requires Inv-loop μ-loop
-section-turn-requires c κs = (omega (arith, c .before .word-at .ensures .0), c .loop .inv .0)
-
 returns : tie.Need-returns Inv-loop μ-loop
 returns c =
     let l = c .before .before .before .before .loop in
@@ -33,9 +30,6 @@ returns c =
       run = sym (l .inv .1 .1 ∙ run-stop _ _ _ _ _ (omega (arith, l .inv .0)) (turn-at _ _ _ (l .inv .0 .stands) ∙ (sym (c .before .before .before .section-turn .ensures) ∙ c .before .number .given .1)));
       casm = λ n e. not-ended _ _ n e;
     }
-
-enum-told : tie.Need-enum-told Inv-loop μ-loop
-enum-told c = search needs
 
 returns-2 : tie.Need-returns-2 Inv-loop μ-loop
 returns-2 c =
@@ -56,14 +50,6 @@ add-word-at c = omega (arith, section-more _ _ _ (sym (c .before .before .before
 
 word-at-requires-2 : tie.Need-word-at-requires-2 Inv-loop μ-loop
 word-at-requires-2 c κs = omega (arith, section-more _ _ _ (sym (c .before .before .before .section-turn .ensures) ∙ c .before .enum-told2 .given .1) .within)
-
-add-at-2 : tie.Need-add-at-2 Inv-loop μ-loop
-add-at-2 c =
-    let d = c .before .before in
-    omega (arith, section-more _ _ _ (sym (d .before .before .section-turn .ensures) ∙ d .enum-told2 .given .1) .within, c .word-at2 .ensures .0)
-
-loop-less : tie.Need-loop-less Inv-loop μ-loop
-loop-less c = omega (arith, c .before .before .before .before .before .loop .inv .0)
 
 loop-again : tie.Need-loop-again Inv-loop μ-loop
 loop-again c =
@@ -87,17 +73,17 @@ read-sections-spec =
     (λ c κs. search needs)
     (λ c. search needs)
     loop-holds
-    section-turn-requires
+    (λ c κs. (omega (arith, c .before .word-at .ensures .0), c .loop .inv .0))
     (λ c. search needs)
     returns
-    enum-told
+    (λ c. search needs)
     returns-2
     (λ c. search needs)
     casm-after-requires
     add-at
     add-word-at
     word-at-requires-2
-    add-at-2
     (λ c. search needs)
-    loop-less
+    (λ c. search needs)
+    (λ c. search needs)
     loop-again)

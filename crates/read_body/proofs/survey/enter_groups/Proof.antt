@@ -1,6 +1,7 @@
 -- What is still to be read is the run from group number n on; the tables hold what is known of the groups so far. n goes up, to 32 at most.
-use Prim.Native.Nat.{ℕ, _-_, _≤_}
+use Prim.Native.Nat.{ℕ, _-_, _<_, _≤_}
 use mathlib.Core.Path.{_≡_, refl, sym, _∙_}
+use mathlib.Core.List.{List}
 use native.Mathlib.Omega.{arith}
 use lib.ListN.{length, length-replicate}
 use Rattle.layout.specs.Scan.{run}
@@ -11,7 +12,7 @@ use Rattle.layout.proofs.Accepted.{body-over, body-within}
 use Rattle.read_met.specs.Before.{Places, Marks}
 use Rattle.read_met.proofs.Marked.{marks-start}
 use Rattle.read_body.specs.Known.{Insides}
-use Rattle.read_body.proofs.TurnLaws.{places-start, insides-start, places-next, insides-next, more-within, counts-small, ended-known}
+use Rattle.read_body.proofs.TurnLaws.{Fitting, places-start, insides-start, places-next, insides-next, more-within, counts-small, ended-known}
 use borrow.Author.Needs.{needs}
 use Rattle.read_body.proofs.survey.enter_groups.Statement.{statement}
 use Rattle.read_body.proofs.survey.enter_groups.Tie as tie
@@ -41,9 +42,6 @@ returns-2 c =
     let l = g .before .before .before .loop in
     record { run = sym (l .inv .1 .1 .1 .1 .1 .1 ∙ run-stop _ _ _ _ _ (omega arith) (sym (g .group-turn .ensures .turn) ∙ c .before .turn .given .1)); known = λ n e. not-ended _ _ n e }
 
-enum-told : tie.Need-enum-told Inv-loop μ-loop
-enum-told c = search needs
-
 returns-3 : tie.Need-returns-3 Inv-loop μ-loop
 returns-3 c =
     let g = c .before .before in
@@ -53,83 +51,25 @@ returns-3 c =
       known = λ n e. ended-known _ _ _ _ _ n (l .inv .0) (l .inv .1 .1 .1 .0) (l .inv .1 .1 .1 .1 .0) e;
     }
 
-element-write-places : tie.Need-element-write-places Inv-loop μ-loop
-element-write-places c =
-    let g = c .before .before in
-    let l = g .before .before .before .loop in
-    let more = more-within _ _ _ _ _ (g .group-turn .ensures) (l .inv .1 .0) (l .inv .1 .1 .0) (c .enum-told2 .given .1) in
-    more .0
+-- a turn that goes on: where the loop stands, and what bounds the group
+abbrev here : tie.After-enum-told2 Inv-loop μ-loop → tie.At-loop Inv-loop μ-loop
+here c = c .before .before .before .before .before
 
-cast-records : tie.Need-cast-records Inv-loop μ-loop
-cast-records c =
-    let e = c .before in
-    let g = e .before .before in
-    let a = g .before .before .before .before .before .before .args in
-    let small = counts-small (a .s .now) _ _ _ (g .group-turn .ensures .sound (e .enum-told2 .given .1)) (omega arith) in
-    omega (arith, small .0)
+abbrev body : tie.After-enum-told2 Inv-loop μ-loop → List ℕ
+body c = here c .before .before .before .args .s .now
 
-element-write-records : tie.Need-element-write-records Inv-loop μ-loop
-element-write-records c =
-    let e = c .before in
-    let g = e .before .before in
-    let l = g .before .before .before .loop in
-    let more = more-within _ _ _ _ _ (g .group-turn .ensures) (l .inv .1 .0) (l .inv .1 .1 .0) (e .enum-told2 .given .1) in
-    more .0
+going : (c : tie.After-enum-told2 Inv-loop μ-loop) → Fitting (body c) (here c .loop .n) (here c .loop .at)
+going c = more-within _ _ _ _ _ (c .before .before .group-turn .ensures) (here c .loop .inv .1 .0) (here c .loop .inv .1 .1 .0) (c .enum-told2 .given .1)
 
-cast-seconds : tie.Need-cast-seconds Inv-loop μ-loop
-cast-seconds c =
-    let e = c .before .before in
-    let g = e .before .before in
-    let a = g .before .before .before .before .before .before .args in
-    let small = counts-small (a .s .now) _ _ _ (g .group-turn .ensures .sound (e .enum-told2 .given .1)) (omega arith) in
-    omega (arith, small .1)
-
-element-write-seconds : tie.Need-element-write-seconds Inv-loop μ-loop
-element-write-seconds c =
-    let e = c .before .before in
-    let g = e .before .before in
-    let l = g .before .before .before .loop in
-    let more = more-within _ _ _ _ _ (g .group-turn .ensures) (l .inv .1 .0) (l .inv .1 .1 .0) (e .enum-told2 .given .1) in
-    more .0
-
-add-at : tie.Need-add-at Inv-loop μ-loop
-add-at c =
-    let e = c .before .before in
-    let g = e .before .before in
-    let l = g .before .before .before .loop in
-    let more = more-within _ _ _ _ _ (g .group-turn .ensures) (l .inv .1 .0) (l .inv .1 .1 .0) (e .enum-told2 .given .1) in
-    omega (arith, more .1 .0)
-
-word-at-requires : tie.Need-word-at-requires Inv-loop μ-loop
-word-at-requires c κs =
-    let e = c .before .before in
-    let g = e .before .before in
-    let l = g .before .before .before .loop in
-    let more = more-within _ _ _ _ _ (g .group-turn .ensures) (l .inv .1 .0) (l .inv .1 .1 .0) (e .enum-told2 .given .1) in
-    omega (arith, more .1 .0)
-
-add-at-2 : tie.Need-add-at-2 Inv-loop μ-loop
-add-at-2 c =
-    let e = c .before .before .before in
-    let g = e .before .before in
-    let l = g .before .before .before .loop in
-    let more = more-within _ _ _ _ _ (g .group-turn .ensures) (l .inv .1 .0) (l .inv .1 .1 .0) (e .enum-told2 .given .1) in
-    omega (arith, more .1 .0, c .word-at .ensures .0)
-
-loop-less : tie.Need-loop-less Inv-loop μ-loop
-loop-less c =
-    let e = c .before .before .before in
-    let g = e .before .before in
-    let l = g .before .before .before .loop in
-    let more = more-within _ _ _ _ _ (g .group-turn .ensures) (l .inv .1 .0) (l .inv .1 .1 .0) (e .enum-told2 .given .1) in
-    omega (arith, more .0)
+small : (c : tie.After-enum-told2 Inv-loop μ-loop) → let r = c .before .before .group-turn .result in (r .records < 65536) × (r .seconds < 65536)
+small c = counts-small (body c) _ _ _ (c .before .before .group-turn .ensures .sound (c .enum-told2 .given .1)) (omega arith)
 
 loop-again : tie.Need-loop-again Inv-loop μ-loop
 loop-again c =
     let e = c .before .before .before in
     let g = e .before .before in
     let l = g .before .before .before .loop in
-    let more = more-within _ _ _ _ _ (g .group-turn .ensures) (l .inv .1 .0) (l .inv .1 .1 .0) (e .enum-told2 .given .1) in
+    let more = going e in
     let told = g .group-turn .ensures .sound (e .enum-told2 .given .1) in (
       omega (arith, more .0),
       (
@@ -161,21 +101,21 @@ enter-groups-spec =
     group-turn-requires
     (λ c. search needs)
     returns-2
-    enum-told
+    (λ c. search needs)
     returns-3
     (λ c. search needs)
     (λ c. search needs)
-    element-write-places
-    cast-records
+    (λ c. going c .0)
+    (λ c. omega (arith, small (c .before) .0))
     (λ c. search needs)
-    element-write-records
-    cast-seconds
+    (λ c. going (c .before) .0)
+    (λ c. omega (arith, small (c .before .before) .1))
     (λ c. search needs)
-    element-write-seconds
-    add-at
+    (λ c. going (c .before .before) .0)
+    (λ c. omega (arith, going (c .before .before) .1 .0))
     (λ c. search needs)
-    word-at-requires
-    add-at-2
+    (λ c κs. omega (arith, going (c .before .before) .1 .0))
+    (λ c. omega (arith, going (c .before .before .before) .1 .0, c .word-at .ensures .0))
     (λ c. search needs)
-    loop-less
+    (λ c. omega (arith, going (c .before .before .before) .0))
     loop-again)

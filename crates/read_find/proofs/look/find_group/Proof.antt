@@ -5,9 +5,6 @@ use borrow.Author.Needs.{needs}
 use Rattle.read_find.proofs.look.find_group.Statement.{statement}
 use Rattle.read_find.proofs.look.find_group.Tie as tie
 
-enum-told : tie.Need-enum-told
-enum-told c = search needs
-
 returns : tie.Need-returns
 returns c =
     rw (c .no-standing .ensures) (group-no _ _ _ _ (found-refused _ _ _ _ (sym (c .before .before .before .before .locate-group .ensures) ∙ c .before .before .number .given .1)))
@@ -26,7 +23,7 @@ find-group-spec =
     (λ c κs. search needs)
     (λ c. search needs)
     (λ c κs. search needs)
-    enum-told
+    (λ c. search needs)
     (λ c κs. search needs)
     (λ c. search needs)
     returns

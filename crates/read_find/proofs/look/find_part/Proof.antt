@@ -5,9 +5,6 @@ use borrow.Author.Needs.{needs}
 use Rattle.read_find.proofs.look.find_part.Statement.{statement}
 use Rattle.read_find.proofs.look.find_part.Tie as tie
 
-enum-told : tie.Need-enum-told
-enum-told c = search needs
-
 returns : tie.Need-returns
 returns c = part-no _ _ _ _ (part-refused _ _ _ _ (sym (c .before .before .before .locate-part .ensures) ∙ c .before .number .given .1))
 
@@ -23,7 +20,7 @@ find-part-spec =
     (tie.spec
     (λ c κs. search needs)
     (λ c. search needs)
-    enum-told
+    (λ c. search needs)
     (λ c. search needs)
     returns
     returns-2

@@ -7,9 +7,6 @@ use borrow.Author.Needs.{needs}
 use Rattle.read_find.proofs.look.group_text.Statement.{statement}
 use Rattle.read_find.proofs.look.group_text.Tie as tie
 
-enum-told : tie.Need-enum-told
-enum-told c = search needs
-
 add-end : tie.Need-add-end
 add-end c =
     let w = there-within _ _ _ (group-there-is _ _ _ _ (sym (c .before .before .before .before .locate-group .ensures) ∙ c .before .before .x .given .1)) .text in
@@ -32,7 +29,7 @@ group-text-spec =
     tie.close
     (tie.spec
     (λ c κs. search needs)
-    enum-told
+    (λ c. search needs)
     (λ c. search needs)
     (λ c. search needs)
     (λ c. search needs)

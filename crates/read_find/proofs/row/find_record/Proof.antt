@@ -8,9 +8,6 @@ use borrow.Author.Needs.{needs}
 use Rattle.read_find.proofs.row.find_record.Statement.{statement}
 use Rattle.read_find.proofs.row.find_record.Tie as tie
 
-enum-told : tie.Need-enum-told
-enum-told c = search needs
-
 find-row-requires : tie.Need-find-row-requires
 find-row-requires c κs = there-within _ _ _ (group-there-is _ _ _ _ (sym (c .before .before .before .locate-group .ensures) ∙ c .before .x .given .1)) .ctabs
 
@@ -51,7 +48,7 @@ find-record-spec =
     (tie.spec
     (λ c κs. search needs)
     (λ c. search needs)
-    enum-told
+    (λ c. search needs)
     (λ c. search needs)
     find-row-requires
     returns

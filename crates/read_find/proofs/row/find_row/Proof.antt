@@ -1,12 +1,12 @@
 -- What is still to be looked at is the search from Ctab number i on; i goes up.
-use Prim.Native.Nat.{_-_, _≤_}
+use Prim.Native.Nat.{_+_, _-_, _≤_}
 use mathlib.Core.Path.{_≡_, refl, sym, _∙_}
 use native.Mathlib.Omega.{arith}
 use lib.Dec.{eqb}
 use lib.ListN.{length}
 use borrow.Author.Tests.{eq-eqb, ne-eqb}
 use Rattle.layout.specs.Scan.{first}
-use Rattle.layout.specs.Group.{ctabOf, ctabChannel}
+use Rattle.layout.specs.Group.{ctabPlace, ctabOf, ctabChannel}
 use Rattle.layout.proofs.Scans.{first-end, first-here, first-next}
 use Rattle.layout.proofs.Ctabs.{row-fits}
 use borrow.Author.Needs.{needs}
@@ -23,22 +23,9 @@ loop-holds : tie.Need-loop-holds Inv-loop μ-loop
 unfolding ctabOf
 loop-holds c = (search needs, refl)
 
-ctab-place-requires : tie.Need-ctab-place-requires Inv-loop μ-loop
-ctab-place-requires c κs =
-    let a = c .before .before .before in
-    omega (arith, row-fits (a .args .edition) (a .args .p) (c .before .loop .i) (a .args .n) (length (a .args .s .now)) (c .loop-test .taken) (a .pre))
-
-add-if1 : tie.Need-add-if1 Inv-loop μ-loop
-add-if1 c =
-    let l = c .before in
-    let a = l .before .before .before in
-    omega (arith, c .ctab-place .ensures, row-fits (a .args .edition) (a .args .p) (l .before .loop .i) (a .args .n) (length (a .args .s .now)) (l .loop-test .taken) (a .pre))
-
-shared-slice-read-if1 : tie.Need-shared-slice-read-if1 Inv-loop μ-loop
-shared-slice-read-if1 c =
-    let l = c .before .before in
-    let a = l .before .before .before in
-    omega (arith, c .before .ctab-place .ensures, row-fits (a .args .edition) (a .args .p) (l .before .loop .i) (a .args .n) (length (a .args .s .now)) (l .loop-test .taken) (a .pre))
+-- Ctab number i stands within the body
+fits : (c : tie.In-loop Inv-loop μ-loop) → let a = c .before .before .before .args in ctabPlace (a .edition) (a .p) (c .before .loop .i) + 35 ≤ length (a .s .now)
+fits c = let b = c .before .before .before in row-fits (b .args .edition) (b .args .p) (c .before .loop .i) (b .args .n) (length (b .args .s .now)) (c .loop-test .taken) (b .pre)
 
 returns : tie.Need-returns Inv-loop μ-loop
 unfolding ctabChannel
@@ -66,9 +53,9 @@ find-row-spec =
     Inv-loop
     μ-loop
     loop-holds
-    ctab-place-requires
-    add-if1
-    shared-slice-read-if1
+    (λ c κs. omega (arith, fits c))
+    (λ c. omega (arith, c .ctab-place .ensures, fits (c .before)))
+    (λ c. omega (arith, c .before .ctab-place .ensures, fits (c .before .before)))
     returns
     (λ c. search needs)
     (λ c. search needs)
