@@ -14,45 +14,12 @@ abbrev μ-loop : tie.MeasureT-loop
 loop-holds : tie.Need-loop-holds Inv-loop μ-loop
 loop-holds c = told-start _ _ _ _
 
-mul-from : tie.Need-mul-from Inv-loop μ-loop
-mul-from c = omega arith
-
-mul-put-entry : tie.Need-mul-put-entry Inv-loop μ-loop
-mul-put-entry c = omega arith
-
-shared-slice-read-put-entry : tie.Need-shared-slice-read-put-entry Inv-loop μ-loop
-shared-slice-read-put-entry c = omega arith
-
-add-put-entry : tie.Need-add-put-entry Inv-loop μ-loop
-add-put-entry c = omega arith
-
-mul-put-entry-2 : tie.Need-mul-put-entry-2 Inv-loop μ-loop
-mul-put-entry-2 c = omega arith
-
-shared-slice-read-put-entry-2 : tie.Need-shared-slice-read-put-entry-2 Inv-loop μ-loop
-shared-slice-read-put-entry-2 c = omega arith
-
-add-put-entry-2 : tie.Need-add-put-entry-2 Inv-loop μ-loop
-add-put-entry-2 c = omega arith
-
-mul-put-entry-3 : tie.Need-mul-put-entry-3 Inv-loop μ-loop
-mul-put-entry-3 c = omega arith
-
-shared-slice-read-put-entry-3 : tie.Need-shared-slice-read-put-entry-3 Inv-loop μ-loop
-shared-slice-read-put-entry-3 c = omega arith
-
 put-entry-requires : tie.Need-put-entry-requires Inv-loop μ-loop
 put-entry-requires c κs =
     let i = c .before .before .before .before in
     let l = i .before in
     let start = l .before .before .before in
     told-room (start .args .list .now) (start .args .n) _ _ (start .pre .1) _ _ _ (l .loop .inv)
-
-add-k : tie.Need-add-k Inv-loop μ-loop
-add-k c = omega arith
-
-loop-less : tie.Need-loop-less Inv-loop μ-loop
-loop-less c = omega arith
 
 loop-again : tie.Need-loop-again Inv-loop μ-loop
 loop-again c =
@@ -81,18 +48,18 @@ put-entries-spec =
     Inv-loop
     μ-loop
     loop-holds
-    mul-from
-    mul-put-entry
-    shared-slice-read-put-entry
-    add-put-entry
-    mul-put-entry-2
-    shared-slice-read-put-entry-2
-    add-put-entry-2
-    mul-put-entry-3
-    shared-slice-read-put-entry-3
+    (λ c. omega arith)
+    (λ c. omega arith)
+    (λ c. omega arith)
+    (λ c. omega arith)
+    (λ c. omega arith)
+    (λ c. omega arith)
+    (λ c. omega arith)
+    (λ c. omega arith)
+    (λ c. omega arith)
     put-entry-requires
-    add-k
-    loop-less
+    (λ c. omega arith)
+    (λ c. omega arith)
     loop-again
     same-length
     returns)

@@ -9,12 +9,6 @@ use Rattle.read_ranges.proofs.is_out.Tie as tie
 enum-told : tie.Need-enum-told
 enum-told c = search needs
 
-is-out-ctab-requires : tie.Need-is-out-ctab-requires
-is-out-ctab-requires c κs = size-of _ First _ (c .enum-told .given .1) (c .before .before .pre)
-
-is-out-ctb2-requires : tie.Need-is-out-ctb2-requires
-is-out-ctb2-requires c κs = size-of _ Second _ (c .enum-told2 .given .1) (c .before .before .pre)
-
 returns : tie.Need-returns
 returns c = judged _ _ _ _ _ _ (c .before .enum-told .given .1) (c .is-out-ctab .ensures)
 
@@ -24,4 +18,4 @@ returns-2 c = judged _ _ _ _ _ _ (c .before .enum-told2 .given .1) (c .is-out-ct
 pub is-out-spec : {M : Type 1} → statement M
 is-out-spec =
     tie.close
-    (tie.spec enum-told is-out-ctab-requires (λ c. search needs) is-out-ctb2-requires returns returns-2)
+    (tie.spec enum-told (λ c κs. size-of _ First _ (c .enum-told .given .1) (c .before .before .pre)) (λ c. search needs) (λ c κs. size-of _ Second _ (c .enum-told2 .given .1) (c .before .before .pre)) returns returns-2)

@@ -11,9 +11,6 @@ returns : tie.Need-returns
 unfolding channelOf
 returns c = at-other _ _ _ _ _ (c .answer .ensures) (c .before .if1 .taken)
 
-first-out-requires : tie.Need-first-out-requires
-first-out-requires c κs = (rw (c .before .edition-of .ensures) (omega arith), search needs)
-
 returns-2 : tie.Need-returns-2
 unfolding channelOf
 returns-2 c =
@@ -38,7 +35,7 @@ edit-at-spec =
     (λ c κs. search needs)
     (λ c κs. search needs)
     (λ c. search needs)
-    first-out-requires
+    (λ c κs. (rw (c .before .edition-of .ensures) (omega arith), search needs))
     (λ c κs. search needs)
     returns-2
     (λ c. search needs)

@@ -11,9 +11,6 @@ use Rattle.write_field.proofs.set_field.Tie as tie
 returns : tie.Need-returns
 returns c = sym (set-over _ _ _ (c .if1 .taken))
 
-is-out-requires : tie.Need-is-out-requires
-is-out-requires c κs = rw (c .edition-of .ensures) (omega arith)
-
 returns-2 : tie.Need-returns-2
 returns-2 c =
     let a = c .before .before .before .before .args in
@@ -38,7 +35,7 @@ set-field-spec =
     (tie.spec
     returns
     (λ c κs. search needs)
-    is-out-requires
+    (λ c κs. rw (c .edition-of .ensures) (omega arith))
     returns-2
     (λ c κs. search needs)
     (λ c. search needs)

@@ -16,32 +16,17 @@ abbrev μ-loop : tie.MeasureT-loop
 loop-holds : tie.Need-loop-holds Inv-loop μ-loop
 loop-holds c = stored-start _ _ _
 
-add-out : tie.Need-add-out Inv-loop μ-loop
-add-out c = omega arith
-
 slice-write-out : tie.Need-slice-write-out Inv-loop μ-loop
 slice-write-out c =
     let l = c .before .before .loop in
     let s = c .before .before .before in
     omega (arith, stored-length _ _ _ (s .pre) _ _ (l .inv))
 
-add-i : tie.Need-add-i Inv-loop μ-loop
-add-i c = omega arith
-
-loop-less : tie.Need-loop-less Inv-loop μ-loop
-loop-less c = omega arith
-
 loop-again : tie.Need-loop-again Inv-loop μ-loop
 loop-again c =
     let l = c .before .before .loop in
     let s = c .before .before .before in
     stored-next _ _ _ (s .pre) _ _ (l .inv) (search needs)
-
-add-result : tie.Need-add-result Inv-loop μ-loop
-add-result c = omega arith
-
-same-length : tie.Need-same-length Inv-loop μ-loop
-same-length c = stored-length _ _ _ (c .before .before .pre) _ _ (c .before .loop .inv)
 
 returns : tie.Need-returns Inv-loop μ-loop
 returns c = stored-end _ _ _ (c .before .before .pre) _ _ (c .before .loop .inv) (omega arith)
@@ -54,11 +39,11 @@ put-bytes-spec =
     μ-loop
     loop-holds
     (λ c. search needs)
-    add-out
+    (λ c. omega arith)
     slice-write-out
-    add-i
-    loop-less
+    (λ c. omega arith)
+    (λ c. omega arith)
     loop-again
-    add-result
-    same-length
+    (λ c. omega arith)
+    (λ c. stored-length _ _ _ (c .before .before .pre) _ _ (c .before .loop .inv))
     returns)

@@ -9,18 +9,6 @@ use Rattle.read_record.proofs.edition.ctab_place.Tie as tie
 enum-told : tie.Need-enum-told
 enum-told c = search needs
 
-mul-result : tie.Need-mul-result
-mul-result c = let w = place-of _ First _ _ _ (c .enum-told .given .1) (c .before .before .pre) in search needs
-
-add-result : tie.Need-add-result
-add-result c = let w = place-of _ First _ _ _ (c .enum-told .given .1) (c .before .before .pre) in search needs
-
-mul-result-2 : tie.Need-mul-result-2
-mul-result-2 c = let w = place-of _ Second _ _ _ (c .enum-told2 .given .1) (c .before .before .pre) in search needs
-
-add-result-2 : tie.Need-add-result-2
-add-result-2 c = let w = place-of _ Second _ _ _ (c .enum-told2 .given .1) (c .before .before .pre) in search needs
-
 returns : tie.Need-returns
 returns c = place-is _ First _ _ _ (c .enum-told .given .1) refl
 
@@ -32,10 +20,10 @@ ctab-place-spec =
     tie.close
     (tie.spec
     enum-told
-    mul-result
-    add-result
+    (λ c. let w = place-of _ First _ _ _ (c .enum-told .given .1) (c .before .before .pre) in search needs)
+    (λ c. let w = place-of _ First _ _ _ (c .enum-told .given .1) (c .before .before .pre) in search needs)
     (λ c. search needs)
-    mul-result-2
-    add-result-2
+    (λ c. let w = place-of _ Second _ _ _ (c .enum-told2 .given .1) (c .before .before .pre) in search needs)
+    (λ c. let w = place-of _ Second _ _ _ (c .enum-told2 .given .1) (c .before .before .pre) in search needs)
     returns
     returns-2)
