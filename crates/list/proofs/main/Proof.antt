@@ -4,12 +4,6 @@ use borrow.Author.Needs.{needs}
 use Rattle.list.proofs.main.Statement.{statement}
 use Rattle.list.proofs.main.Tie as tie
 
-array-share-prefix-out : tie.Need-array-share-prefix-out
-array-share-prefix-out c = let u = used-counts _ _ _ _ (c .list-file .ensures) in search needs
-
-slice-aggregate-write-all : tie.Need-slice-aggregate-write-all
-slice-aggregate-write-all c = let u = used-counts _ _ _ _ (c .before .list-file .ensures) in search needs
-
 pub main-spec : {M : Type 1} → statement M
 main-spec =
     tie.close
@@ -21,7 +15,7 @@ main-spec =
     (λ c. search needs)
     (λ c. search needs)
     (λ c κs. search needs)
-    array-share-prefix-out
-    slice-aggregate-write-all
+    (λ c. let u = used-counts _ _ _ _ (c .list-file .ensures) in search needs)
+    (λ c. let u = used-counts _ _ _ _ (c .before .list-file .ensures) in search needs)
     (λ c κs. search needs)
     (λ c. search needs))
