@@ -1,11 +1,8 @@
 // Reads a script on standard input and prints one answer line for each line of it. A line is taken apart, one call of the library is
 // made, and what came back is printed; no rule of the format stands here.
-mod answer;
-
-use answer::answer_step;
-use script_text::lines;
-use script_text::lines::DONE;
-use script_text::lines::TEXT;
+use calls_lines::answer_step;
+use script_lines::DONE;
+use script_lines::TEXT;
 use script_text::print;
 use script_text::print::OUT;
 use script_words::bytes;
@@ -19,10 +16,10 @@ fn answer_all(
     out: &mut [u8; OUT],
 ) {
     let mut turns = u64::MAX;
-    let mut reader = lines::start();
+    let mut reader = script_lines::start();
     let mut used = 0;
     while turns > 0 {
-        let step = lines::next(text, reader);
+        let step = script_lines::next(text, reader);
         if step.kind == DONE {
             break;
         }
@@ -34,7 +31,7 @@ fn answer_all(
 }
 
 fn main() {
-    let mut text = lines::text();
+    let mut text = script_lines::text();
     let mut room = bytes::room();
     let mut name = bytes::room();
     let mut out = print::out();

@@ -2,17 +2,17 @@
 use crate::asks::plays;
 use crate::asks::voice;
 use crate::finds;
-use crate::lists::salvage;
+use calls_lists::salvage;
+use script_asked::BODY;
+use script_asked::CHANNEL;
+use script_asked::FIND;
+use script_asked::PART;
+use script_asked::PLAYS;
+use script_asked::SALVAGE;
+use script_asked::VOICE;
+use script_asked::WHERE;
 use script_text::print::OUT;
 use script_text::print::put_bad;
-use script_words::asked::BODY;
-use script_words::asked::CHANNEL;
-use script_words::asked::FIND;
-use script_words::asked::PART;
-use script_words::asked::PLAYS;
-use script_words::asked::SALVAGE;
-use script_words::asked::VOICE;
-use script_words::asked::WHERE;
 use script_words::word::byte;
 
 // The body, the NAME and the numbers of a line are handed to its verb.

@@ -1,6 +1,4 @@
 // The verbs of the bench `calls` that take, give or change records: each makes one call of the library and prints the answer.
 mod alone;
 mod edits;
-mod groups;
-mod news;
 pub mod verbs;

@@ -1,5 +1,4 @@
-// The words of a script's line: what stands behind a verb, numbers, BYTES, and whether a word is a REC.
-pub mod asked;
+// The words of a script's line: numbers, BYTES, and whether a word is a REC.
 pub mod bytes;
 pub mod hex;
 pub mod word;

@@ -44,7 +44,7 @@ pub fn is_past(line: &[u8], at: usize) -> bool {
 }
 
 // Which of some words a word is, counted from 0, or how many they are where it is none of them.
-pub(crate) fn position(word: &[u8], words: &[u8]) -> usize {
+pub fn position(word: &[u8], words: &[u8]) -> usize {
     let mut k: usize = 0;
     let mut at = 0;
     while at <= words.len() {

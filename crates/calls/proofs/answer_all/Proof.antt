@@ -1,5 +1,5 @@
 -- The places stay sound from turn to turn; what falls is the count of turns.
-use Rattle.script_text.specs.Reading.{Sound}
+use Rattle.script_lines.specs.Reading.{Sound}
 use borrow.Author.Needs.{needs}
 use Rattle.calls.proofs.answer_all.Statement.{statement}
 use Rattle.calls.proofs.answer_all.Tie as tie

@@ -1,8 +1,8 @@
 -- k goes up, to the list's end at most.
 use Prim.Native.Nat.{_-_}
 use borrow.Author.Needs.{needs}
-use Rattle.calls_reads.proofs.lists.put_entries.Statement.{statement}
-use Rattle.calls_reads.proofs.lists.put_entries.Tie as tie
+use Rattle.calls_lists.proofs.put_entries.Statement.{statement}
+use Rattle.calls_lists.proofs.put_entries.Tie as tie
 
 abbrev Inv-loop : tie.InvT-loop
 Inv-loop out₀ used list count after₀ k₀ out after k = Unit {0}

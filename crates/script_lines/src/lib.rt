@@ -1,7 +1,7 @@
 // The lines of a script on standard input. The text has room for the longest line and a block of 65,536 characters behind it.
 ghost use Prim.Native.Nat.{_+_, _≤_};
 ghost use lib.ListN.{length};
-ghost use Rattle.script_text.specs.Reading.{InText, Sound, Stepped};
+ghost use Rattle.script_lines.specs.Reading.{InText, Sound, Stepped};
 
 // The most characters that a line may have.
 pub const MOST: usize = 2200000;

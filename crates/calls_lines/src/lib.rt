@@ -1,15 +1,15 @@
 // A line of a script is answered by the verb that it begins with. `room` and `name` hold its BYTES and its NAME.
 ghost use Prim.Native.Nat.{_≤_};
-ghost use Rattle.script_text.specs.Reading.{InText};
-use script_text::lines::LINE;
-use script_text::lines::OVERLONG;
-use script_text::lines::TEXT;
+ghost use Rattle.script_lines.specs.Reading.{InText};
+use script_asked::EDIT;
+use script_asked::GROUP;
+use script_asked::WRITE;
+use script_asked::ask;
+use script_lines::LINE;
+use script_lines::OVERLONG;
+use script_lines::TEXT;
 use script_text::print::OUT;
 use script_text::print::put_bad;
-use script_words::asked::EDIT;
-use script_words::asked::GROUP;
-use script_words::asked::WRITE;
-use script_words::asked::ask;
 use script_words::bytes::ROOM;
 use script_words::bytes::first;
 use script_words::hex::is_rec;

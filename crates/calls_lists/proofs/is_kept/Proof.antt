@@ -1,8 +1,8 @@
 -- What falls is how many numbers are left.
 use Prim.Native.Nat.{_-_, _*_}
 use borrow.Author.Needs.{needs}
-use Rattle.calls_reads.proofs.lists.is_kept.Statement.{statement}
-use Rattle.calls_reads.proofs.lists.is_kept.Tie as tie
+use Rattle.calls_lists.proofs.is_kept.Statement.{statement}
+use Rattle.calls_lists.proofs.is_kept.Tie as tie
 
 abbrev Inv-loop : tie.InvT-loop
 Inv-loop list count n k₀ k = Unit {0}

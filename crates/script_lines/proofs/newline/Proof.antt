@@ -1,8 +1,8 @@
 -- What falls is how much of the text is left.
 use Prim.Native.Nat.{_-_, _≤_}
 use borrow.Author.Needs.{needs}
-use Rattle.script_text.proofs.lines.newline.Statement.{statement}
-use Rattle.script_text.proofs.lines.newline.Tie as tie
+use Rattle.script_lines.proofs.newline.Statement.{statement}
+use Rattle.script_lines.proofs.newline.Tie as tie
 
 abbrev Inv-loop : tie.InvT-loop
 Inv-loop text from to i₀ i = (from ≤ i) × (i ≤ to)

@@ -3,8 +3,8 @@ use lib.ListN.{length}
 use mathlib.Core.Path.{_≡_}
 use Prim.Native.Nat.{_-_}
 use borrow.Author.Needs.{needs}
-use Rattle.script_text.proofs.lines.keep.Statement.{statement}
-use Rattle.script_text.proofs.lines.keep.Tie as tie
+use Rattle.script_lines.proofs.keep.Statement.{statement}
+use Rattle.script_lines.proofs.keep.Tie as tie
 
 abbrev Inv-loop : tie.InvT-loop
 Inv-loop text₀ from count i₀ text i = length text ≡ length text₀

@@ -1,7 +1,7 @@
 -- What a reader of a script and its steps keep to. Assumes nothing.
 use Prim.Native.Nat.{ℕ, _≤_}
-use Rattle.script_text.specs.declared.lines.Reader.{Reader}
-use Rattle.script_text.specs.declared.lines.Step.{Step}
+use Rattle.script_lines.specs.declared.Reader.{Reader}
+use Rattle.script_lines.specs.declared.Step.{Step}
 
 -- a place within the text, or its end
 abbrev pub InText : ℕ → Type 0

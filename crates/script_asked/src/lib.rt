@@ -1,12 +1,12 @@
 // The verbs, and the words that stand behind one.
-use crate::bytes::ROOM;
-use crate::bytes::take_bytes;
-use crate::hex::is_rec;
-use crate::word::NONE;
-use crate::word::next;
-use crate::word::number;
-use crate::word::position;
-use crate::word::word_at;
+use script_words::bytes::ROOM;
+use script_words::bytes::take_bytes;
+use script_words::hex::is_rec;
+use script_words::word::NONE;
+use script_words::word::next;
+use script_words::word::number;
+use script_words::word::position;
+use script_words::word::word_at;
 
 // The verbs, by number.
 pub const FIND: usize = 0;
