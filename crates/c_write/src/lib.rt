@@ -14,6 +14,7 @@ ghost use Rattle.c_row.specs.Flat.{rowSize, lentRows, recordIn, tableOf};
 use c_row::flat::row_count;
 use c_row::row::second_by;
 use layout::answer::Measured;
+use layout::edition::Edition;
 use layout::size::HELD;
 use layout::size::ROW;
 use write_chunks::places::put_ctab_at;
@@ -68,7 +69,7 @@ fn put_row_ctab(out: &mut [u8], at: usize, i: usize, row: &[u8])
 {
     let mut b = [0u8; HELD];
     put_bytes(&mut b, &row[0..HELD]);
-    put_ctab_at(out, at, i, &b);
+    put_ctab_at(Edition::First, out, at, i, &b);
 }
 
 // The Ctabs of the first n records, one after the other from `at` on.

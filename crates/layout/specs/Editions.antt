@@ -1,6 +1,6 @@
 -- The editions of the layout, and what they differ in besides their ranges (document 01, "The CASM body"; document 02, §4; 001, 1.1 and 1.2).
 use Prim.Native.Nat.{ℕ}
-use mathlib.Core.List.{List}
+use mathlib.Core.List.{List, [], _∷_}
 use Rattle.layout.specs.Bytes.{Ctab, Ctb2}
 pub use Rattle.layout.specs.declared.edition.Edition.{Edition}
 pub use Rattle.layout.specs.declared.edition.Edition.the-variants.{First, Second}
@@ -19,3 +19,8 @@ size Second = 47
 abbrev pub held : Edition → ℕ
 held First = 26
 held Second = 47
+
+-- behind them "byte 26 is always written as 00"; of the second edition nothing
+abbrev pub closing : Edition → List ℕ
+closing First = 0 ∷ []
+closing Second = []

@@ -1,5 +1,5 @@
 -- The chunks behind their headers, as they come about.
-use Prim.Native.Nat.{ℕ, _+_, _-_, _≤_}
+use Prim.Native.Nat.{ℕ, _+_, _-_, _≤_, _<_}
 use mathlib.Core.Path.{_≡_, refl, sym, _∙_, ap, ap₂}
 use mathlib.Core.List.{List, [], _∷_, _++_, append-assoc}
 use native.Mathlib.Omega.{arith}
@@ -8,25 +8,36 @@ use lib.Seq.{drop-cons, set-append-seam}
 use borrow.Rule.Slice.PartMut.{midOf, putMid}
 use Rattle.layout.specs.declared.record.Record.{Record}
 use Rattle.layout.specs.declared.record.SecondTable.the-variants.{Value}
-use Rattle.layout.specs.Bytes.{four, chunk, CSEG, Sdec, Ctab}
-use Rattle.layout.specs.Records.{bytesOf, fileBytes}
-use Rattle.layout.proofs.Ctabs.{ctab-tag}
+use Rattle.layout.specs.Bytes.{four, chunk, CSEG, Sdec}
+use Rattle.layout.specs.declared.edition.Edition.{Edition}
+use Rattle.layout.specs.declared.edition.Edition.the-variants.{First, Second}
+use Rattle.layout.specs.Editions.{tagOf, size, held, closing}
+use Rattle.layout.specs.Records.{bytesOf, editionOf, fileBytes}
+use Rattle.layout.proofs.Editions.{size-least, closed-length}
 use Rattle.layout.proofs.Groups.{sdec-tag, cseg-tag}
 use Rattle.layout.specs.Edit.{replaced}
 use Rattle.layout.specs.Write.{ctabBytes, cnttBytes}
 use Rattle.write_chunks.proofs.Tails.{tail-written, tail-replaced}
 
--- bytes 0-25, and 00 stored behind them
-pub held-stored : (b old xs : List ℕ) → length b ≡ 26 → 27 ≤ length old → xs ≡ b ++ drop (length b) old → set xs 26 0 ≡ b ++ (0 ∷ drop 27 old)
-held-stored b old xs z h q =
-    let e : drop (length b) old ≡ getD old 26 0 ∷ drop 27 old = ap (λ (k : ℕ). drop k old) z ∙ drop-cons old 26 0 (omega arith) in
-    ap (λ (l : List ℕ). set l 26 0) (q ∙ ap (λ (d : List ℕ). b ++ d) e)
-    ∙ (ap (λ (k : ℕ). set (b ++ (getD old 26 0 ∷ drop 27 old)) k 0) (sym z) ∙ set-append-seam b (getD old 26 0) (drop 27 old) 0)
+-- the bytes held, and behind those of the first edition 00
+module _ (e : Edition) (b old xs : List ℕ) (z : length b ≡ held e) (q : xs ≡ b ++ drop (length b) old) where
+  held-over : xs ≡ b ++ drop (held e) old
+  held-over = q ∙ ap (λ (k : ℕ). b ++ drop k old) z
+
+  pub held-first : e ≡ First → size e ≤ length old → set xs 26 0 ≡ b ++ (closing e ++ drop (size e) old)
+  held-first f h =
+      let n : length b ≡ 26 = rw f at z in
+      let more : 26 < length old = omega (arith, size-least e) in
+      let over : xs ≡ b ++ (getD old 26 0 ∷ drop 27 old) = rw f at held-over ∙ ap (λ (d : List ℕ). b ++ d) (drop-cons old 26 0 more) in
+      rw f (ap₂ (λ (l : List ℕ) (k : ℕ). set l k 0) over (sym n) ∙ set-append-seam b (getD old 26 0) (drop 27 old) 0)
+
+  pub held-second : e ≡ Second → xs ≡ b ++ (closing e ++ drop (size e) old)
+  held-second f = rw f (rw f at held-over)
 
 -- .. are the record's bytes in the file
-pub record-stored : (r : Record) (b d xs : List ℕ) → b ≡ bytesOf r → xs ≡ b ++ (0 ∷ d) → xs ≡ fileBytes r ++ d
+pub record-stored : (r : Record) (b d xs : List ℕ) → b ≡ bytesOf r → xs ≡ b ++ (closing (editionOf r) ++ d) → xs ≡ fileBytes r ++ d
 unfolding fileBytes
-record-stored r b d xs e q = rw e at q ∙ sym (append-assoc (bytesOf r) (0 ∷ []) d)
+record-stored r b d xs e q = rw e at q ∙ sym (append-assoc (bytesOf r) (closing (editionOf r)) d)
 
 -- a tail behind a header, given the bytes b at its start
 module _ (tag size : ℕ) (old xs : List ℕ) (h : 8 ≤ length xs) (q : xs ≡ four tag ++ (four size ++ drop 8 old)) where
@@ -55,13 +66,13 @@ module _ (old xs : List ℕ) (h : 8 ≤ length xs) where
       headed 0x43534547 size old xs h q (chunk Sdec text) ys (8 + length text) y w
       ∙ (ap (λ (t : List ℕ). t ++ (four size ++ (chunk Sdec text ++ drop (8 + (8 + length text)) old))) cseg-tag ∙ ap (λ (k : ℕ). CSEG ++ (four size ++ (chunk Sdec text ++ drop k old))) z)
 
-  pub ctab-stored : (b ys : List ℕ) → length b ≡ 26 → xs ≡ four 0x43746162 ++ (four 27 ++ drop 8 old) → ys ≡ b ++ (0 ∷ drop 27 (midOf 8 (length xs - 8) xs))
-      → putMid 8 (length xs - 8) xs ys ≡ chunk Ctab (b ++ (0 ∷ [])) ++ drop 35 old
-  ctab-stored b ys z q w =
-      let f : List ℕ = b ++ (0 ∷ []) in
-      let n : length f ≡ 27 = omega (arith, length-append b (0 ∷ [])) in
-      headed 0x43746162 27 old xs h q f ys 27 n (w ∙ sym (append-assoc b (0 ∷ []) (drop 27 (midOf 8 (length xs - 8) xs))))
-      ∙ (ap₂ (λ (t : List ℕ) (k : ℕ). t ++ (four k ++ (f ++ drop 35 old))) ctab-tag (sym n) ∙ sym (chunk-then Ctab f (drop 35 old)))
+  pub ctab-stored : (e : Edition) (t n : ℕ) (b ys : List ℕ) → four t ≡ tagOf e → n ≡ size e → length b ≡ held e → xs ≡ four t ++ (four n ++ drop 8 old)
+      → ys ≡ b ++ (closing e ++ drop (size e) (midOf 8 (length xs - 8) xs)) → putMid 8 (length xs - 8) xs ys ≡ chunk (tagOf e) (b ++ closing e) ++ drop (8 + size e) old
+  ctab-stored e t n b ys tag is z q w =
+      let f : List ℕ = b ++ closing e in
+      let l : length f ≡ size e = closed-length e b z in
+      headed t n old xs h q f ys (size e) l (w ∙ sym (append-assoc b (closing e) (drop (size e) (midOf 8 (length xs - 8) xs))))
+      ∙ (ap₂ (λ (t : List ℕ) (k : ℕ). t ++ (four k ++ (f ++ drop (8 + size e) old))) tag (is ∙ sym l) ∙ sym (chunk-then (tagOf e) f (drop (8 + size e) old)))
 
 -- a Cntt's two bytes stored behind its header
 pub cntt-stored : (channel v : ℕ) (old xs : List ℕ) → 10 ≤ length old → xs ≡ four 0x436E7474 ++ (four 2 ++ drop 8 old) → set (set xs 8 channel) 9 v ≡ cnttBytes channel (Value v) ++ drop 10 old
@@ -70,16 +81,23 @@ cntt-stored channel v old xs h q = rw (q, drop-cons old 8 0 (omega arith), drop-
 
 -- ---- chunks in place of what stands there
 
+ctab-long : (e : Edition) (b : List ℕ) → length b ≡ held e → length (chunk (tagOf e) (b ++ closing e)) ≡ 8 + size e
+unfolding chunk four
+ctab-long First b z = omega (arith, closed-length First b z)
+ctab-long Second b z = omega (arith, closed-length Second b z)
+
 module _ (old : List ℕ) (to : ℕ) (l : to ≤ length old) where
-  pub ctab-placed : (b ys : List ℕ) → length b ≡ 26 → ys ≡ chunk Ctab (b ++ (0 ∷ [])) ++ drop 35 (midOf to (length old - to) old) → putMid to (length old - to) old ys ≡ replaced old to (chunk Ctab (b ++ (0 ∷ [])))
-  unfolding chunk four
-  ctab-placed b ys z w = tail-replaced old (chunk Ctab (b ++ (0 ∷ []))) ys to 35 l (omega (arith, length-append b (0 ∷ []))) w
+  pub ctab-placed : (e : Edition) (at : ℕ) (b ys : List ℕ) → to ≡ at → length b ≡ held e → ys ≡ chunk (tagOf e) (b ++ closing e) ++ drop (8 + size e) (midOf to (length old - to) old)
+      → putMid to (length old - to) old ys ≡ replaced old at (chunk (tagOf e) (b ++ closing e))
+  ctab-placed e at b ys p z w =
+      let f : List ℕ = chunk (tagOf e) (b ++ closing e) in
+      tail-replaced old f ys to (8 + size e) l (ctab-long e b z) w ∙ ap (λ (k : ℕ). replaced old k f) p
 
   pub cntt-placed : (channel v : ℕ) (ys : List ℕ) → ys ≡ cnttBytes channel (Value v) ++ drop 10 (midOf to (length old - to) old) → putMid to (length old - to) old ys ≡ replaced old to (cnttBytes channel (Value v))
   unfolding cnttBytes chunk four
   cntt-placed channel v ys w = tail-replaced old (cnttBytes channel (Value v)) ys to 10 l refl w
 
 -- a record's Ctab from its bytes
-pub ctab-of : (r : Record) (b : List ℕ) → b ≡ bytesOf r → chunk Ctab (b ++ (0 ∷ [])) ≡ ctabBytes r
+pub ctab-of : (r : Record) (b : List ℕ) → b ≡ bytesOf r → chunk (tagOf (editionOf r)) (b ++ closing (editionOf r)) ≡ ctabBytes r
 unfolding ctabBytes fileBytes
 ctab-of r b e = rw e

@@ -1,22 +1,22 @@
 // The chunk writers: each writes at the start of what it is lent and lends on the tail behind its header.
 ghost use mathlib.Core.Path.{_≡_};
-ghost use mathlib.Core.List.{[], _∷_, _++_};
+ghost use mathlib.Core.List.{_++_};
 ghost use Prim.Native.Nat.{_+_, _≤_};
 ghost use lib.ListN.{length, drop};
-ghost use Rattle.layout.specs.Bytes.{CSEG, Sdec, Ctab, four, chunk};
+ghost use Rattle.layout.specs.Bytes.{CSEG, Sdec, four, chunk};
 ghost use Rattle.layout.specs.declared.record.SecondTable.the-variants.{Value};
-ghost use Rattle.layout.specs.declared.edition.Edition.the-variants.{First};
-ghost use Rattle.layout.specs.Editions.{size, held};
+ghost use Rattle.layout.specs.Editions.{tagOf, size, held, closing};
 ghost use Rattle.layout.specs.Write.{cnttBytes};
 use crate::put::put_bytes;
 use crate::put::put_head;
 use crate::put::put_held;
+use layout::edition::Edition;
 use layout::size::CNTT_BYTES;
-use layout::size::RECORD;
 use layout::tag::CNTT;
 use layout::tag::CSEG;
-use layout::tag::CTAB;
 use layout::tag::SDEC;
+use read_record::edition::size_of;
+use read_record::edition::tag_of;
 
 // An Sdec: its text behind its header.
 fn put_sdec(out: &mut [u8], text: &[u8])
@@ -36,13 +36,13 @@ pub fn put_front(out: &mut [u8], text: &[u8], size: usize)
     put_sdec(&mut out[8..], text);
 }
 
-// A Ctab: a record behind its header, from its bytes 0-25.
-pub fn put_ctab(out: &mut [u8], b: &[u8])
-    requires { ⌜ (length (now b) ≡ held First) × (8 + size First ≤ length (now out)) ⌝ }
-    ensures { λ _. ⌜ now (out .exit) ≡ chunk Ctab (now (b .entry) ++ (0 ∷ [])) ++ drop (8 + size First) (now (out .entry)) ⌝ }
+// A Ctab: a record behind its header, from the bytes of it that are held.
+pub fn put_ctab(edition: Edition, out: &mut [u8], b: &[u8])
+    requires { ⌜ (length (now b) ≡ held edition) × (8 + size edition ≤ length (now out)) ⌝ }
+    ensures { λ _. ⌜ now (out .exit) ≡ chunk (tagOf edition) (now (b .entry) ++ closing edition) ++ drop (8 + size edition) (now (out .entry)) ⌝ }
 {
-    put_head(out, CTAB, RECORD);
-    put_held(&mut out[8..], b);
+    put_head(out, tag_of(edition), size_of(edition));
+    put_held(edition, &mut out[8..], b);
 }
 
 // A Cntt: a source channel and a table value behind its header.

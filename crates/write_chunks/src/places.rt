@@ -1,39 +1,41 @@
 // Chunks at their places: one Ctab stands 35 bytes behind the other, one Cntt 10.
 ghost use mathlib.Core.Path.{_≡_};
-ghost use mathlib.Core.List.{[], _∷_, _++_};
+ghost use mathlib.Core.List.{_++_};
 ghost use Prim.Native.Nat.{_+_, _*_, _≤_};
 ghost use lib.ListN.{length};
-ghost use Rattle.layout.specs.Bytes.{Ctab, chunk};
+ghost use Rattle.layout.specs.Bytes.{chunk};
 ghost use Rattle.layout.specs.Edit.{replaced};
-ghost use Rattle.layout.specs.Editions.{size, held};
+ghost use Rattle.layout.specs.Editions.{tagOf, size, held, closing};
 ghost use Rattle.layout.specs.Group.{ctabPlace};
-ghost use Rattle.layout.specs.declared.edition.Edition.the-variants.{First};
+ghost use Rattle.layout.specs.Records.{editionOf};
 ghost use Rattle.layout.specs.Write.{ctabBytes};
 ghost use Rattle.write_plan.specs.Chunks.{cnttsDown};
 use crate::chunks::put_cntt;
 use crate::chunks::put_ctab;
+use layout::edition::Edition;
 use layout::record::Record;
 use layout::size::CNTT_BYTES;
 use layout::size::CNTT_STRIDE;
-use layout::size::CTAB_STRIDE;
+use read_record::edition::ctab_place;
 use read_record::held::bytes_of;
+use read_record::held::edition_of;
 
-// Ctab number i of those from `at` on, from the record's bytes 0-25.
-pub fn put_ctab_at(out: &mut [u8], at: usize, i: usize, b: &[u8])
-    requires { ⌜ (length (now b) ≡ held First) × (ctabPlace First at i + (8 + size First) ≤ length (now out)) ⌝ }
-    ensures { λ _. ⌜ now (out .exit) ≡ replaced (now (out .entry)) (ctabPlace First at i) (chunk Ctab (now (b .entry) ++ (0 ∷ []))) ⌝ }
+// Ctab number i of those from `at` on, from the bytes of its record that are held.
+pub fn put_ctab_at(edition: Edition, out: &mut [u8], at: usize, i: usize, b: &[u8])
+    requires { ⌜ (length (now b) ≡ held edition) × (ctabPlace edition at i + (8 + size edition) ≤ length (now out)) ⌝ }
+    ensures { λ _. ⌜ now (out .exit) ≡ replaced (now (out .entry)) (ctabPlace edition at i) (chunk (tagOf edition) (now (b .entry) ++ closing edition)) ⌝ }
 {
-    let to = at + CTAB_STRIDE * i;
-    put_ctab(&mut out[to..], b);
+    let to = ctab_place(edition, out, at, i);
+    put_ctab(edition, &mut out[to..], b);
 }
 
 // .. and of a record in memory.
 pub fn put_record(out: &mut [u8], at: usize, i: usize, r: Record)
-    requires { ⌜ ctabPlace First at i + (8 + size First) ≤ length (now out) ⌝ }
-    ensures { λ _. ⌜ now (out .exit) ≡ replaced (now (out .entry)) (ctabPlace First at i) (ctabBytes r) ⌝ }
+    requires { ⌜ ctabPlace (editionOf r) at i + (8 + size (editionOf r)) ≤ length (now out) ⌝ }
+    ensures { λ _. ⌜ now (out .exit) ≡ replaced (now (out .entry)) (ctabPlace (editionOf r) at i) (ctabBytes r) ⌝ }
 {
     let b = bytes_of(r);
-    put_ctab_at(out, at, i, &b);
+    put_ctab_at(edition_of(r), out, at, i, &b);
 }
 
 // The first n Cntts of those laid down, from `at` on.

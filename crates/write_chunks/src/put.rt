@@ -1,11 +1,11 @@
 // What chunks are made of: bytes, a header, a record. Each writer writes at the start of what it is lent.
 ghost use mathlib.Core.Path.{_≡_};
-ghost use mathlib.Core.List.{_∷_, _++_};
+ghost use mathlib.Core.List.{_++_};
 ghost use Prim.Native.Nat.{_≤_};
 ghost use lib.ListN.{length, drop};
 ghost use Rattle.layout.specs.Bytes.{four};
-ghost use Rattle.layout.specs.declared.edition.Edition.the-variants.{First};
-ghost use Rattle.layout.specs.Editions.{size, held};
+ghost use Rattle.layout.specs.Editions.{size, held, closing};
+use layout::edition::Edition;
 
 // These bytes.
 pub fn put_bytes(out: &mut [u8], b: &[u8])
@@ -34,11 +34,16 @@ pub fn put_head(out: &mut [u8], tag: usize, size: usize)
     out[7] = (size % 256) as u8;
 }
 
-// The 27 bytes of a record from its bytes 0-25; byte 26 is always written as 00.
-pub fn put_held(out: &mut [u8], b: &[u8])
-    requires { ⌜ (length (now b) ≡ held First) × (size First ≤ length (now out)) ⌝ }
-    ensures { λ _. ⌜ now (out .exit) ≡ now (b .entry) ++ (0 ∷ drop (size First) (now (out .entry))) ⌝ }
+// The bytes of a record in the file from those held; byte 26 of the first edition is always written as 00.
+pub fn put_held(edition: Edition, out: &mut [u8], b: &[u8])
+    requires { ⌜ (length (now b) ≡ held edition) × (size edition ≤ length (now out)) ⌝ }
+    ensures { λ _. ⌜ now (out .exit) ≡ now (b .entry) ++ (closing edition ++ drop (size edition) (now (out .entry))) ⌝ }
 {
     put_bytes(out, b);
-    out[26] = 0;
+    match edition {
+        Edition::First => {
+            out[26] = 0;
+        }
+        Edition::Second => {}
+    }
 }

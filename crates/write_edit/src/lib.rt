@@ -36,11 +36,12 @@ fn edit_at(s: &mut [u8], at: usize, channel: SourceChannel, new: Record) -> Answ
         return answer(BAD_NUMBER, 0);
     }
     let b = bytes_of(new);
-    let k = first_out(edition_of(new), &b, 0, HELD);
+    let edition = edition_of(new);
+    let k = first_out(edition, &b, 0, HELD);
     if k < HELD {
         return answer(OUT_OF_RANGE, k);
     }
-    put_held(&mut s[at..], &b);
+    put_held(edition, &mut s[at..], &b);
     answer(0, 0)
 }
 

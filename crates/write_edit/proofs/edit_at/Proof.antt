@@ -18,13 +18,16 @@ returns-2 c =
     let d = o .before .before in
     at-out _ _ _ _ (d .before .before .if1 .left) _ (d .before .bytes-of .ensures) _ (rw (d .edition-of .ensures) at (o .first-out .ensures)) _ (c .answer2 .ensures) (omega (arith, c .before .if2 .taken))
 
+put-held-requires : tie.Need-put-held-requires
+put-held-requires c κs = rw (c .before .before .before .before .before .edition-of .ensures) (search needs)
+
 returns-3 : tie.Need-returns-3
 unfolding channelOf
 returns-3 c =
     let e = c .before .before .before .before .before .before in
     let d = e .before .before .before in
     let start = c .before .before .before .before .before .before .before .before .before .before .before .before .before .before .before .before in
-    at-put _ _ _ _ (d .before .before .if1 .left) _ (d .before .bytes-of .ensures) _ (rw (d .edition-of .ensures) at (e .before .first-out .ensures)) _ (c .before .before .before .put-held .last .0) (c .answer3 .ensures) (omega (arith, e .if2 .left)) (omega (arith, start .pre)) (record-stored _ _ _ _ (d .before .bytes-of .ensures) (c .before .before .before .put-held .ensures))
+    at-put _ _ _ _ (d .before .before .if1 .left) _ (d .before .bytes-of .ensures) _ (rw (d .edition-of .ensures) at (e .before .first-out .ensures)) _ (c .before .before .before .put-held .last .1 .0) (c .answer3 .ensures) (omega (arith, e .if2 .left)) (omega (arith, start .pre)) (record-stored _ _ _ _ (d .before .bytes-of .ensures) (rw (d .edition-of .ensures) at (c .before .before .before .put-held .ensures)))
 
 pub edit-at-spec : {M : Type 1} → statement M
 edit-at-spec =
@@ -42,7 +45,7 @@ edit-at-spec =
     (λ c. search needs)
     (λ c. search needs)
     (λ c. search needs)
-    (λ c κs. search needs)
+    put-held-requires
     (λ c κs. search needs)
     (λ c. search needs)
     returns-3)
