@@ -2,19 +2,18 @@
 use Prim.Native.Nat.{ℕ, suc, _+_, _*_, _<_}
 use mathlib.Core.Path.{_≡_, refl, sym, ap, ap₂, _∙_}
 use mathlib.Core.Bool.{Bool, true, false, cond}
-use mathlib.Core.List.{List, _++_, append-nil, flatMap}
+use mathlib.Core.List.{List, [], _∷_, _++_, append-nil, flatMap}
 use native.Mathlib.Omega.{arith}
 use lib.Dec.{ltb}
 use lib.ListN.{length, getD, take, drop}
 use lib.Seq.{drop-length, take-all}
 use borrow.Author.Tests.{ltb-true}
 use Rattle.layout.specs.Lists.{rows}
-use Rattle.layout.specs.Bytes.{word, Sdec, chunk}
+use Rattle.layout.specs.Bytes.{word, Sdec, Ctab, chunk}
 use Rattle.layout.specs.declared.edition.Edition.the-variants.{First}
-use Rattle.layout.specs.Ranges.{outAt}
 use Rattle.layout.specs.declared.record.Record.{Record}
 use Rattle.layout.specs.declared.record.SecondTable.the-variants.{Absent, Value}
-use Rattle.layout.specs.Records.{bytesOf, recordOf, blank, channelOf, badSecond, firstBad}
+use Rattle.layout.specs.Records.{bytesOf, recordOf, blank, channelOf, badSecond, firstBad, fileBytes}
 use Rattle.layout.specs.Group.{ctabChannel, ctabTurn, ctabsOf, cnttPlace, cnttChannel, cnttOf, cnttTurn, cnttsOf, secondOf, recordAt, groupOf}
 use Rattle.layout.specs.Write.{ctabBytes, payloadBytes, Allowed}
 use Rattle.layout.proofs.Heads.{head-sound}
@@ -25,7 +24,6 @@ use Rattle.layout.proofs.Lists.{rows-length, getD-rows}
 use Rattle.layout.proofs.Sixteen.{channels-apart}
 use Rattle.layout.proofs.RecordBytes.{record-channel}
 use Rattle.layout.proofs.BytesBack.{read-bytes}
-use Rattle.layout.proofs.Outs.{out-alike}
 use Rattle.law_rounds.specs.Rounds.{Bytes}
 use Rattle.law_rounds.proofs.RecordBack.{read-whole}
 use Rattle.law_rounds.proofs.Runs.{run-ran}
@@ -34,7 +32,7 @@ use Rattle.law_rounds.proofs.Chunks.{chunk-read}
 use Rattle.layout.proofs.Pigeonhole.{Apart}
 use Rattle.law_rounds.proofs.Follows.{pairBytes, ownCntt, valueOn, cntts-written}
 use Rattle.law_rounds.proofs.InRange.{none-bad, value-good, absent-good}
-use Rattle.law_rounds.proofs.CtabRounds.{read-ranged, held-byte, held-size, ctab-read}
+use Rattle.law_rounds.proofs.CtabRounds.{held-size, held-ranged, ctab-read}
 use Rattle.law_rounds.proofs.CnttOrder.{Ordered, order-read, homeRead, follows-read}
 use Rattle.law_rounds.proofs.CnttRounds.{cntt-read}
 
@@ -82,17 +80,20 @@ module _ (c : List ℕ) (t n m : ℕ) where
     held : (i : ℕ) → i < n → bytesOf (row i) ≡ take 26 (drop (8 + t + 35 * i + 8) c)
     unfolding recordAt
     held i l =
-        let z = held-size c p i (8 + t + 35 * i) (ctab i l) in
+        let z = held-size First c p i (8 + t + 35 * i) (ctab i l) in
         read-bytes (take 26 (drop (8 + t + 35 * i + 8) c)) (secondOf c q m (ctabChannel First c p i)) (omega arith)
         ∙ take-all 26 (take 26 (drop (8 + t + 35 * i + 8) c)) (omega arith)
 
     -- ---- the bytes
 
+    ctab-back : Bytes c → (i : ℕ) → i < n → drop (8 + t + 35 * i) c ≡ ctabBytes (row i) ++ drop (8 + t + 35 * suc i) c
+    unfolding ctabBytes fileBytes
+    ctab-back b i l = rw (held i l) (ctab-read First c p i (8 + t + 35 * i) (ctab i l) b ∙ ap (λ x. chunk Ctab (take 26 (drop (8 + t + 35 * i + 8) c) ++ (0 ∷ [])) ++ x) (moved c (8 + t + 35 * i + 8 + 27) (8 + t + 35 * suc i) (omega arith)))
+
     ctabs-back : Bytes c → drop p c ≡ flatMap ctabBytes (rows row 0 n) ++ drop q c
     ctabs-back b =
         moved c p (8 + t + 35 * 0) (omega arith)
-        ∙ blocks-read c (λ i. 8 + t + 35 * i) row ctabBytes n (λ i l. ctab-read c p i (8 + t + 35 * i) (ctab i l) (row i) b (held i l)
-        ∙ ap (λ x. ctabBytes (row i) ++ x) (moved c (8 + t + 35 * i + 35) (8 + t + 35 * suc i) (omega arith)))
+        ∙ blocks-read c (λ i. 8 + t + 35 * i) row ctabBytes n (ctab-back b)
 
     cntts-back : Bytes c → drop q c ≡ flatMap ownCntt (rows row 0 n)
     unfolding cnttChannel
@@ -128,13 +129,7 @@ module _ (c : List ℕ) (t n m : ℕ) where
     row-second i = second-ok (ctabChannel First c p i)
 
     row-ok : (i : ℕ) → i < n → firstBad (row i) ≡ 26
-    row-ok i l = none-bad (row i) ranged (row-second i)
-      where
-        same-byte : (k : ℕ) → k < 26 → getD (bytesOf (row i)) (0 + k) 0 ≡ getD c (8 + t + 35 * i + 8 + k) 0
-        same-byte k u = ap₂ (λ b j. getD b j 0) (held i l) (omega arith) ∙ held-byte c p i (8 + t + 35 * i) (ctab i l) k u
-
-        ranged : (k : ℕ) → k < 26 → outAt First (bytesOf (row i)) 0 k ≡ false
-        ranged k u = out-alike First (bytesOf (row i)) c 0 (8 + t + 35 * i + 8) 26 same-byte k u ∙ read-ranged c p i (8 + t + 35 * i) (ctab i l) k (omega arith)
+    row-ok i l = none-bad (row i) (λ k u. rw (held i l) (held-ranged First c p i (8 + t + 35 * i) (ctab i l) k u)) (row-second i)
 
     pub contents-allowed : Allowed (groupOf First c t n m)
     unfolding groupOf recordAt

@@ -1,139 +1,136 @@
--- A Ctab read is the bytes of its record, and a Ctab written is read (document 01, "The CASM body": Ctab).
+-- A Ctab read is what is held of its record, closed and behind a header, and a Ctab so written is read (document 01, "The CASM body": Ctab): over the edition.
 use Prim.Native.Nat.{ℕ, _+_, _≤_, _<_}
 use mathlib.Core.Path.{_≡_, refl, sym, ap, ap₂, _∙_}
 use mathlib.Core.Bool.{true, false}
-use mathlib.Core.List.{List, [], _∷_, _++_, append-assoc}
+use mathlib.Core.List.{List, _++_, append-assoc}
 use native.Mathlib.Omega.{arith}
 use native.Mathlib.Nat.{add-zero}
-use native.Mathlib.Decide.{decLt}
 use lib.Dec.{eqb}
-use lib.ListN.{length, getD, take, drop, length-append, length-drop, List·getD-append}
-use lib.Seq.{take-suc, getD-take, length-take-le, take-at, getD-drop, getD-append-seam}
-use borrow.Author.Tests.{le-ltb, le-leb, ne-eqb}
+use lib.ListN.{length, getD, take, drop, length-drop, List·getD-append}
+use lib.Seq.{getD-take, length-take-le, take-at, getD-drop}
+use borrow.Author.Tests.{le-ltb, le-leb, eq-eqb, ne-eqb}
 use Rattle.layout.specs.Lists.{same}
 use Rattle.layout.specs.Scan.{first}
-use Rattle.layout.specs.Bytes.{tagAt, tagged, Ctab, chunk}
+use Rattle.layout.specs.Bytes.{tagAt, tagged, Cntt, chunk}
 use Rattle.layout.specs.declared.turn.Turn.the-variants.{More}
-use Rattle.layout.specs.declared.edition.Edition.the-variants.{First}
+use Rattle.layout.specs.declared.edition.Edition.{Edition}
+use Rattle.layout.specs.declared.edition.Edition.the-variants.{First, Second}
+use Rattle.layout.specs.Editions.{tagOf, size, held, closing}
 use Rattle.layout.specs.Ranges.{outAt, firstOut}
 use Rattle.layout.specs.declared.record.Record.{Record}
-use Rattle.layout.specs.Records.{bytesOf, channelOf, fileBytes}
+use Rattle.layout.specs.Records.{bytesOf, editionOf, fileBytes}
 use Rattle.layout.specs.Group.{ctabsOver, ctabChannel, ctabOf, ctabAt}
 use Rattle.layout.specs.Write.{ctabBytes}
+use Rattle.layout.proofs.Editions.{held-size as held-within, held-some, size-least, closed-length}
 use Rattle.layout.proofs.Scans.{first-passed, first-none}
 use Rattle.layout.proofs.Heads.{head-sound}
 use Rattle.layout.proofs.Same.{same-is}
-use Rattle.layout.proofs.Records.{bytes-length, Ranged}
+use Rattle.layout.proofs.Records.{bytes-length}
 use Rattle.layout.proofs.Ctabs.{CtabMore, ctab-fits}
 use Rattle.layout.proofs.Outs.{out-alike}
 use Rattle.law_rounds.specs.Rounds.{Bytes}
 use Rattle.law_rounds.proofs.Blocks.{moved}
 use Rattle.law_rounds.proofs.Chunks.{chunk-read, length-chunk, written-length, written-rest, written-byte, written-head}
-use Rattle.law_rounds.proofs.InRange.{last-zero, zero-last}
+use Rattle.law_rounds.proofs.InRange.{closing-read, closing-ranged}
 
-pub length-file : (r : Record) → length (fileBytes r) ≡ 27
+pub length-file : (r : Record) → length (fileBytes r) ≡ size (editionOf r)
 unfolding fileBytes
-length-file r = length-append (bytesOf r) (0 ∷ []) ∙ rw (bytes-length r)
+length-file r = closed-length (editionOf r) (bytesOf r) (bytes-length r)
 
-pub length-ctab : (r : Record) → length (ctabBytes r) ≡ 35
+pub length-ctab : (r : Record) → length (ctabBytes r) ≡ 8 + size (editionOf r)
 unfolding ctabBytes
-length-ctab r = length-chunk Ctab (fileBytes r) refl ∙ rw (length-file r)
+length-ctab r = length-chunk (tagOf (editionOf r)) (fileBytes r) refl ∙ rw (length-file r)
 
 -- ---- read
 
-module _ (c : List ℕ) (p n at : ℕ) (h : CtabMore First c p n at) where
-  -- byte k of the 27 is in its range
-  pub read-ranged : (k : ℕ) → k < 27 → outAt First c (at + 8) k ≡ false
+module _ (e : Edition) (c : List ℕ) (p n at : ℕ) (h : CtabMore e c p n at) where
+  -- byte k of its record is in its range
+  read-ranged : (k : ℕ) → k < size e → outAt e c (at + 8) k ≡ false
   unfolding firstOut
   read-ranged k l =
-      let w : 27 ≤ first (outAt First c (at + 8)) 0 27 = h .inside in
-      first-passed (outAt First c (at + 8)) 27 k (omega arith)
+      let w : size e ≤ first (outAt e c (at + 8)) 0 (size e) = h .inside in
+      first-passed (outAt e c (at + 8)) (size e) k (omega arith)
 
-  pub held-byte : (k : ℕ) → k < 26 → getD (take 26 (drop (at + 8) c)) k 0 ≡ getD c (at + 8 + k) 0
-  held-byte k l = getD-take 26 (drop (at + 8) c) k 0 l ∙ getD-drop (at + 8) c k 0
+  -- what is held of it
+  abbrev own : List ℕ
+  own = take (held e) (drop (at + 8) c)
 
-  pub held-size : length (take 26 (drop (at + 8) c)) ≡ 26
-  held-size = length-take-le 26 (drop (at + 8) c) (rw length-drop (omega (arith, ctab-fits First c p n at h)))
+  pub held-size : length own ≡ held e
+  held-size = length-take-le (held e) (drop (at + 8) c) (rw length-drop (omega (arith, ctab-fits e c p n at h, held-within e)))
 
-  pub ctab-read : (r : Record) → Bytes c → bytesOf r ≡ take 26 (drop (at + 8) c) → drop at c ≡ ctabBytes r ++ drop (at + 35) c
-  unfolding ctabBytes fileBytes outAt
-  ctab-read r b e =
-      let fits : at + 35 ≤ length c = omega (arith, ctab-fits First c p n at h) in
-      chunk-read c at Ctab 27 b (head-sound c at Ctab (h .head) .0) (h .length) (omega arith)
-      ∙ ap₂ (λ x y. chunk Ctab x ++ y) (all fits ∙ ap (λ x. x ++ (0 ∷ [])) (sym e)) (moved c (at + 8 + 27) (at + 35) (omega arith))
+  pub held-ranged : (k : ℕ) → k < held e → outAt e own 0 k ≡ false
+  held-ranged k l = out-alike e own c 0 (at + 8) (held e) byte k l ∙ read-ranged k (omega (arith, held-within e))
     where
-      last : getD (drop (at + 8) c) 26 0 ≡ 0
-      last = getD-drop (at + 8) c 26 0 ∙ last-zero _ _ (read-ranged 26 (omega arith))
+      byte : (i : ℕ) → i < held e → getD own (0 + i) 0 ≡ getD c (at + 8 + i) 0
+      byte i m = ap (λ k. getD own k 0) (omega arith) ∙ getD-take (held e) (drop (at + 8) c) i 0 m ∙ getD-drop (at + 8) c i 0
 
-      all : at + 35 ≤ length c → take 27 (drop (at + 8) c) ≡ take 26 (drop (at + 8) c) ++ (0 ∷ [])
-      all fits = take-suc (drop (at + 8) c) 26 0 (rw length-drop (omega arith)) ∙ ap (λ x. take 26 (drop (at + 8) c) ++ (x ∷ [])) last
+  pub ctab-read : Bytes c → drop at c ≡ chunk (tagOf e) (own ++ closing e) ++ drop (at + 8 + size e) c
+  ctab-read b =
+      let fits = ctab-fits e c p n at h in
+      chunk-read c at (tagOf e) (size e) b (head-sound c at (tagOf e) (h .head) .0) (h .length) fits
+      ∙ ap (λ x. chunk (tagOf e) x ++ drop (at + 8 + size e) c) (closing-read e c (at + 8) fits read-ranged)
 
 -- ---- written
 
--- a Ctab is no Cntt, so the run goes on where it stands
-not-over : (c : List ℕ) (at : ℕ) → at + 35 ≤ length c → tagged c at Ctab ≡ true → ctabsOver c at ≡ false
-unfolding ctabsOver tagged same
-not-over c at h t =
-    let z : tagAt c at ≡ Ctab = same-is (tagAt c at) Ctab t in
-    rw (ne-eqb at (length c) (omega arith), le-leb (at + 8) (length c) (omega arith), z)
+four-bytes : (e : Edition) → length (tagOf e) ≡ 4
+four-bytes First = refl
+four-bytes Second = refl
 
-pub ctab-goes : (c : List ℕ) (p n at : ℕ) → CtabMore First c p n at → ctabAt First c p n at ≡ More
+-- a Ctab is no Cntt, so the run goes on where it stands
+no-cntt : (e : Edition) → same (tagOf e) Cntt ≡ false
+unfolding same
+no-cntt First = refl
+no-cntt Second = refl
+
+not-over : (e : Edition) (c : List ℕ) (at : ℕ) → at + 8 + size e ≤ length c → tagged c at (tagOf e) ≡ true → ctabsOver c at ≡ false
+unfolding ctabsOver tagged
+not-over e c at h t =
+    let z : tagAt c at ≡ tagOf e = same-is (tagAt c at) (tagOf e) t in
+    rw (ne-eqb at (length c) (omega arith), le-leb (at + 8) (length c) (omega arith), z, no-cntt e)
+
+pub ctab-goes : (e : Edition) (c : List ℕ) (p n at : ℕ) → CtabMore e c p n at → ctabAt e c p n at ≡ More
 unfolding ctabAt
-ctab-goes c p n at h =
+ctab-goes e c p n at h =
     rw (
-      not-over c at (omega (arith, ctab-fits First c p n at h)) (head-sound c at Ctab (h .head) .0),
+      not-over e c at (ctab-fits e c p n at h) (head-sound c at (tagOf e) (h .head) .0),
       h .head,
-      h .length,
-      le-ltb (firstOut First c (at + 8) 27) 27 (h .inside),
+      eq-eqb _ _ (h .length),
+      le-ltb (firstOut e c (at + 8) (size e)) (size e) (h .inside),
       h .fresh,
     )
 
-module _ (c : List ℕ) (at : ℕ) (r : Record) (x : List ℕ) (e : drop at c ≡ ctabBytes r ++ x) where
-  chunked : drop at c ≡ chunk Ctab (fileBytes r) ++ x
-  unfolding ctabBytes
-  chunked = e
+-- the bytes b, as many as are held
+module _ (e : Edition) (c : List ℕ) (at : ℕ) (b x : List ℕ) (long : length b ≡ held e) (q : drop at c ≡ chunk (tagOf e) (b ++ closing e) ++ x) where
+  abbrev file : List ℕ
+  file = b ++ closing e
 
-  byte-of : (k : ℕ) → k < 26 → getD c (at + 8 + k) 0 ≡ getD (bytesOf r) k 0
-  unfolding fileBytes
-  byte-of k l =
-      written-byte c at Ctab (fileBytes r) x refl chunked k (omega (arith, length-file r)) ∙ List·getD-append (bytesOf r) (0 ∷ []) 0 k (omega (arith, bytes-length r))
+  byte-of : (k : ℕ) → k < size e → getD c (at + 8 + k) 0 ≡ getD file k 0
+  byte-of k l = written-byte c at (tagOf e) file x (four-bytes e) q k (omega (arith, closed-length e b long))
 
-  byte-26 : getD c (at + 8 + 26) 0 ≡ 0
-  unfolding fileBytes
-  byte-26 =
-      written-byte c at Ctab (fileBytes r) x refl chunked 26 (omega (arith, length-file r))
-      ∙ ap (λ k. getD (bytesOf r ++ (0 ∷ [])) k 0) (sym (bytes-length r)) ∙ getD-append-seam (bytesOf r) 0 [] 0
+  pub channel-at : getD c (at + 8) 0 ≡ getD b 0 0
+  channel-at =
+      ap (λ k. getD c k 0) (sym (add-zero (at + 8))) ∙ byte-of 0 (omega (arith, size-least e)) ∙ List·getD-append b (closing e) 0 0 (omega (arith, held-some e))
 
-  pub channel-at : getD c (at + 8) 0 ≡ channelOf r
-  unfolding bytesOf channelOf
-  channel-at = ap (λ k. getD c k 0) (sym (add-zero (at + 8))) ∙ byte-of 0 (omega arith)
-
-  pub held-at : take 26 (drop (at + 8) c) ≡ bytesOf r
-  unfolding fileBytes
+  pub held-at : take (held e) (drop (at + 8) c) ≡ b
   held-at =
-      ap (take 26) (written-rest c at Ctab (fileBytes r) x refl chunked ∙ append-assoc (bytesOf r) (0 ∷ []) x) ∙ take-at (bytesOf r) _ 26 (bytes-length r)
+      ap (take (held e)) (written-rest c at (tagOf e) file x (four-bytes e) q ∙ append-assoc b (closing e) x) ∙ take-at b _ (held e) long
 
-  in-its-range : Ranged r → (k : ℕ) → k < 27 → outAt First c (at + 8) k ≡ false
-  unfolding outAt
-  in-its-range ok k l = go (decLt k 26)
-    where
-      same-byte : (i : ℕ) → i < 26 → getD c (at + 8 + i) 0 ≡ getD (bytesOf r) (0 + i) 0
-      same-byte i m = byte-of i m ∙ ap (λ k. getD (bytesOf r) k 0) (omega arith)
-
-      go : Dec (k < 26) → outAt First c (at + 8) k ≡ false
-      go (yes m) = out-alike First c (bytesOf r) (at + 8) 0 26 same-byte k m ∙ ok k m
-      go (no m) = let z : k ≡ 26 = omega arith in rw z (rw byte-26 (zero-last _))
-
-  pub ctab-written : Ranged r → (p n : ℕ) → ((i : ℕ) → i < n → ctabChannel First c p i ≡ channelOf r → ⊥) → CtabMore First c p n at
+  pub ctab-written : ((k : ℕ) → k < held e → outAt e b 0 k ≡ false) → (p n : ℕ) → ((i : ℕ) → i < n → ctabChannel e c p i ≡ getD b 0 0 → ⊥) → CtabMore e c p n at
   unfolding firstOut ctabOf
   ctab-written ok p n f =
-      let long = length-file r in
-      let none : first (outAt First c (at + 8)) 0 27 ≡ 27 = first-none (outAt First c (at + 8)) 27 (in-its-range ok) in
-      let fresh : first (λ i. eqb (ctabChannel First c p i) (getD c (at + 8) 0)) 0 n ≡ n =
-      first-none (λ i. eqb (ctabChannel First c p i) (getD c (at + 8) 0)) n (λ i l. ne-eqb _ _ (λ q. f i l (q ∙ channel-at))) in
+      let z = closed-length e b long in
+      let byte : (i : ℕ) → i < size e → getD c (at + 8 + i) 0 ≡ getD file (0 + i) 0 = λ i l. byte-of i l ∙ ap (λ k. getD file k 0) (omega arith) in
+      let none : first (outAt e c (at + 8)) 0 (size e) ≡ size e =
+      first-none (outAt e c (at + 8)) (size e) (λ k l. out-alike e c file (at + 8) 0 (size e) byte k l ∙ closing-ranged e b long ok k l) in
+      let fresh : first (λ i. eqb (ctabChannel e c p i) (getD c (at + 8) 0)) 0 n ≡ n =
+      first-none (λ i. eqb (ctabChannel e c p i) (getD c (at + 8) 0)) n (λ i l. ne-eqb _ _ (λ q. f i l (q ∙ channel-at))) in
       record {
-        head = written-head c at Ctab (fileBytes r) x refl chunked (omega arith);
-        length = written-length c at Ctab (fileBytes r) x refl chunked (omega arith) ∙ long;
+        head = written-head c at (tagOf e) file x (four-bytes e) q (few e (length file) z);
+        length = written-length c at (tagOf e) file x (four-bytes e) q (few e (length file) z) ∙ z;
         inside = omega arith;
         fresh = rw fresh (le-ltb n n (omega arith));
       }
+    where
+      few : (e : Edition) (k : ℕ) → k ≡ size e → k < 4294967296
+      few First k h = omega arith
+      few Second k h = omega arith

@@ -7,9 +7,9 @@ use borrow.Author.Tests.{leb-false}
 use Rattle.layout.specs.declared.record.Record.{Record}
 use Rattle.layout.specs.declared.answer.Answered.{Answered}
 use Rattle.layout.specs.declared.answer.Changed.{Changed}
-use Rattle.layout.specs.declared.edition.Edition.the-variants.{First}
+use Rattle.layout.specs.Editions.{held}
 use Rattle.layout.specs.Ranges.{outOf, ruleAt}
-use Rattle.layout.specs.Records.{bytesOf, recordOf}
+use Rattle.layout.specs.Records.{bytesOf, recordOf, editionOf}
 use Rattle.layout.specs.Answers.{Answer, refused, granted, numberOf, valueOr, answered}
 use Rattle.layout.specs.Screen.{fieldSet, changed}
 use Rattle.layout.specs.Promises.{FieldSet, FieldSetInPlace}
@@ -22,11 +22,11 @@ field-changed : (r after : Record) (index value : ℕ) → fieldSet r index valu
 unfolding fieldSet
 field-changed r after index value e =
     let new : Record = recordOf (set (bytesOf r) index value) (r .second) in
-    let a = if-granted (leb 26 index) 16 0 _ after e in
-    let b = if-granted (outOf First index (ruleAt (bytesOf r) 0 index) value) 9 index (granted new) after (a .1) in
+    let a = if-granted (leb (held (editionOf r)) index) 16 0 _ after e in
+    let b = if-granted (outOf (editionOf r) index (ruleAt (bytesOf r) 0 index) value) 9 index (granted new) after (a .1) in
     let is : new ≡ after = granted-once new after (b .1) in
     let alone = set-alone r after index value e in
-    record { within = leb-false 26 index (a .0); bytes = alone .0; second = alone .1; whole = rw (← is) (read-whole (set (bytesOf r) index value) (r .second)) }
+    record { within = leb-false (held (editionOf r)) index (a .0); bytes = alone .0; second = alone .1; whole = rw (← is) (read-whole (set (bytesOf r) index value) (r .second)) }
 
 -- what is held after an answer: what was granted, or on refusal what was there
 held-after : {A : Type 0} (old now : A) (a : Answer A) (n : ℕ) → n ≡ numberOf a → now ≡ valueOr old a → (n ≡ 0 → ⊥) → now ≡ old

@@ -8,10 +8,11 @@ use lib.Seq.{drop-drop, take-at, drop-at}
 use Rattle.layout.specs.declared.edition.Edition.the-variants.{First}
 use Rattle.layout.specs.Bytes.{word, CSEG, Sdec, chunk}
 use Rattle.layout.specs.declared.turn.Judged.the-variants.{Sound}
-use Rattle.layout.specs.Records.{blank, channelOf}
+use Rattle.layout.specs.Records.{bytesOf, blank, channelOf, fileBytes}
 use Rattle.layout.specs.Group.{headFault, payload, groupSize, groupAt, Group, groupOf}
 use Rattle.layout.specs.Body.{textAt, groupValue}
 use Rattle.layout.specs.Write.{ctabBytes, payloadBytes, groupBytes, Allowed}
+use Rattle.layout.proofs.Records.{bytes-length}
 use Rattle.law_rounds.proofs.Blocks.{moved, blocks-written}
 use Rattle.law_rounds.proofs.Chunks.{length-chunk, written-length, written-rest, written-fits, written-head}
 use Rattle.law_rounds.proofs.Follows.{ownCntt}
@@ -64,9 +65,9 @@ module _ (s : List ℕ) (at : ℕ) (g : Group) (y : List ℕ) (e : drop at s ≡
 
   -- the source channel of record number i, where its Ctab stands
   pub there-channel : (i : ℕ) → i < length (g .records) → getD s (at + 16 + length (g .text) + 35 * i + 8) 0 ≡ channelOf (getD (g .records) i blank)
-  unfolding rest
+  unfolding rest ctabBytes fileBytes channelOf bytesOf
   there-channel i l =
-      channel-at s (at + 16 + length (g .text) + 35 * i) (getD (g .records) i blank) _
+      channel-at First s (at + 16 + length (g .text) + 35 * i) (bytesOf (getD (g .records) i blank)) _ (bytes-length (getD (g .records) i blank))
       (blocks-written s (λ i. at + 16 + length (g .text) + 35 * i) blank ctabBytes (flatMap ownCntt (g .records) ++ y) (g .records)
       (λ i x l r. omega (arith, length-ctab (getD (g .records) i blank)))
       (moved s (at + 16 + length (g .text) + 35 * 0) (at + 16 + length (g .text)) (omega arith) ∙ sym (drop-drop (length (g .text)) (at + 16) s)

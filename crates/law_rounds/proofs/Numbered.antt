@@ -14,10 +14,10 @@ use Rattle.layout.specs.declared.turn.Run.{Run}
 use Rattle.layout.specs.declared.turn.Run.the-variants.{Stopped, Ended}
 use Rattle.layout.specs.declared.turn.Judged.{Judged}
 use Rattle.layout.specs.declared.turn.Judged.the-variants.{Unsound, Sound}
-use Rattle.layout.specs.declared.edition.Edition.the-variants.{First}
+use Rattle.layout.specs.Editions.{held}
 use Rattle.layout.specs.Ranges.{outOf, ruleAt}
 use Rattle.layout.specs.declared.record.Record.{Record}
-use Rattle.layout.specs.Records.{bytesOf, recordOf, blank, channelOf, firstBad, fileBytes}
+use Rattle.layout.specs.Records.{bytesOf, recordOf, blank, channelOf, editionOf, firstBad, fileBytes}
 use Rattle.layout.specs.Sdec.{soundText}
 use Rattle.layout.specs.declared.answer.Standing.{Standing}
 use Rattle.layout.specs.Answers.{Answer, refused, granted, numberOf, afterRun}
@@ -100,12 +100,12 @@ edited-numbered s g channel new =
     let row : ℕ = rowIn s x channel in
     run-numbered (bodyRun s) _ (body-numbered s)
     (λ n. if-numbered (leb n g) 16 0 _ (omega arith) (if-numbered (leb (x .records) row) 15 0 _ (omega arith) (if-numbered (not (eqb (channelOf new) channel)) 16 0 _ (omega arith)
-    (if-numbered (ltb (firstEdited new) 26) 9 (firstEdited new) _ (omega arith) (granted-numbered (replaced s (ctabPlace (x .edition) (x .ctabs) row + 8) (fileBytes new)))))))
+    (if-numbered (ltb (firstEdited new) (held (editionOf new))) 9 (firstEdited new) _ (omega arith) (granted-numbered (replaced s (ctabPlace (x .edition) (x .ctabs) row + 8) (fileBytes new)))))))
 
 pub field-numbered : (r : Record) (index value : ℕ) → Numbered (fieldSet r index value)
 unfolding fieldSet
 field-numbered r index value =
-    if-numbered (leb 26 index) 16 0 _ (omega arith) (if-numbered (outOf First index (ruleAt (bytesOf r) 0 index) value) 9 index _ (omega arith)
+    if-numbered (leb (held (editionOf r)) index) 16 0 _ (omega arith) (if-numbered (outOf (editionOf r) index (ruleAt (bytesOf r) 0 index) value) 9 index _ (omega arith)
     (granted-numbered (recordOf (set (bytesOf r) index value) (r .second))))
 
 -- ---- writing

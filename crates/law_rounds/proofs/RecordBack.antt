@@ -8,9 +8,9 @@ use lib.ListN.{length, set, length-set}
 use lib.Seq.{take-all}
 use Rattle.layout.specs.declared.record.Record.{Record}
 use Rattle.layout.specs.declared.record.SecondTable.{SecondTable}
-use Rattle.layout.specs.declared.edition.Edition.the-variants.{First}
+use Rattle.layout.specs.Editions.{held}
 use Rattle.layout.specs.Ranges.{outOf, ruleAt}
-use Rattle.layout.specs.Records.{bytesOf, recordOf}
+use Rattle.layout.specs.Records.{bytesOf, recordOf, editionOf}
 use Rattle.layout.specs.Answers.{granted}
 use Rattle.layout.specs.Write.{Whole}
 use Rattle.layout.specs.Screen.{fieldSet}
@@ -54,13 +54,13 @@ read-whole b second = record { voice = refl; roots = refl; chords = refl }
 
 -- ---- one field byte set
 
-set-length : (r : Record) (index value : ℕ) → length (set (bytesOf r) index value) ≡ 26
+set-length : (r : Record) (index value : ℕ) → length (set (bytesOf r) index value) ≡ held (editionOf r)
 set-length r index value = length-set (bytesOf r) index value ∙ bytes-length r
 
 set-bytes : (r : Record) (index value : ℕ) → bytesOf (recordOf (set (bytesOf r) index value) (r .second)) ≡ set (bytesOf r) index value
 set-bytes r index value =
     read-bytes (set (bytesOf r) index value) (r .second) (omega (arith, set-length r index value))
-    ∙ take-all 26 (set (bytesOf r) index value) (omega (arith, set-length r index value))
+    ∙ take-all (held (editionOf r)) (set (bytesOf r) index value) (omega (arith, set-length r index value))
 
 set-second : (b : List ℕ) (second : SecondTable) → recordOf b second .second ≡ second
 unfolding recordOf
@@ -71,7 +71,7 @@ pub set-alone : (r after : Record) (index value : ℕ) → fieldSet r index valu
 unfolding fieldSet
 set-alone r after index value e =
     let new : Record = recordOf (set (bytesOf r) index value) (r .second) in
-    let a = if-granted (leb 26 index) 16 0 _ after e in
-    let b = if-granted (outOf First index (ruleAt (bytesOf r) 0 index) value) 9 index (granted new) after (a .1) in
+    let a = if-granted (leb (held (editionOf r)) index) 16 0 _ after e in
+    let b = if-granted (outOf (editionOf r) index (ruleAt (bytesOf r) 0 index) value) 9 index (granted new) after (a .1) in
     let z : new ≡ after = granted-once new after (b .1) in
     rw (← z) (set-bytes r index value, set-second (set (bytesOf r) index value) (r .second))

@@ -6,9 +6,10 @@ use native.Mathlib.Omega.{arith}
 use lib.ListN.{length, getD, drop, length-append, length-drop}
 use Rattle.layout.specs.declared.edition.Edition.the-variants.{First}
 use Rattle.layout.specs.declared.record.Record.{Record}
-use Rattle.layout.specs.Records.{blank, channelOf}
+use Rattle.layout.specs.Records.{bytesOf, blank, channelOf, fileBytes}
 use Rattle.layout.specs.Group.{ctabChannel, cnttChannel}
 use Rattle.layout.specs.Write.{ctabBytes}
+use Rattle.layout.proofs.Records.{bytes-length}
 use Rattle.law_rounds.proofs.Blocks.{moved, blocks-written, length-blocks}
 use Rattle.layout.proofs.Pigeonhole.{Apart}
 use Rattle.law_rounds.proofs.Follows.{Follows, pairBytes, ownCntt}
@@ -48,8 +49,8 @@ module _ (rs : List Record) (c : List ℕ) (p : ℕ) (e : drop p c ≡ flatMap c
 
 module _ (rs : List Record) (c : List ℕ) (p : ℕ) (h : Placed rs c p) where
   pub ctab-channel : (i : ℕ) → i < length rs → ctabChannel First c p i ≡ channelOf (getD rs i blank)
-  unfolding ctabChannel
-  ctab-channel i l = channel-at c (p + 35 * i) (getD rs i blank) _ (h .ctab i l)
+  unfolding ctabChannel ctabBytes fileBytes channelOf bytesOf
+  ctab-channel i l = channel-at First c (p + 35 * i) (bytesOf (getD rs i blank)) _ (bytes-length (getD rs i blank)) (h .ctab i l)
 
   pub cntt-channel : (j : ℕ) → j < length (pairs rs) → cnttChannel c (p + 35 * length rs) j ≡ getD (pairs rs) j (0, 0) .0
   unfolding cnttChannel

@@ -16,12 +16,12 @@ use Rattle.layout.specs.declared.edition.Edition.the-variants.{First}
 use Rattle.layout.specs.declared.record.Record.{Record}
 use Rattle.layout.specs.declared.record.SecondTable.{SecondTable}
 use Rattle.layout.specs.declared.record.SecondTable.the-variants.{Absent, Value}
-use Rattle.layout.specs.Records.{recordOf, blank, channelOf, firstBad}
+use Rattle.layout.specs.Records.{bytesOf, recordOf, blank, channelOf, firstBad, fileBytes}
 use Rattle.layout.specs.Group.{ctabsOver, ctabChannel, ctabTurn, ctabsOf, cnttChannel, cnttOf, cnttTurn, cnttsOf, secondOf, recordAt}
-use Rattle.layout.specs.Write.{Whole}
+use Rattle.layout.specs.Write.{ctabBytes, Whole}
 use Rattle.layout.proofs.Heads.{head-sound}
 use Rattle.layout.proofs.Pigeonhole.{Apart, pigeonhole}
-use Rattle.layout.proofs.Records.{ranged, second-good, ranged-channel}
+use Rattle.layout.proofs.Records.{bytes-length, ranged, second-good, ranged-channel}
 use Rattle.layout.proofs.Ctabs.{ctab-over}
 use Rattle.layout.proofs.Sixteen.{at-most-sixteen}
 use Rattle.layout.proofs.Cntts.{CnttMore, cntt-over}
@@ -51,10 +51,10 @@ module _ (rs : List Record) (whole : (i : ℕ) → i < length rs → Whole (getD
   -- ---- both runs
 
   ctab-more : (i : ℕ) → i < n → ctabTurn First c p i ≡ More
-  unfolding ctabTurn
+  unfolding ctabTurn ctabBytes fileBytes channelOf bytesOf
   ctab-more i l =
-      ctab-goes c p i (p + 35 * i)
-      (ctab-written c (p + 35 * i) (getD rs i blank) _ (placed .ctab i l) (ranged (getD rs i blank) (omega (arith, good i l))) p i (λ k u x. apart k i u l (sym (ctab-channel rs c p placed k (omega arith)) ∙ x)))
+      ctab-goes First c p i (p + 35 * i)
+      (ctab-written First c (p + 35 * i) (bytesOf (getD rs i blank)) _ (bytes-length (getD rs i blank)) (placed .ctab i l) (ranged (getD rs i blank) (omega (arith, good i l))) p i (λ k u x. apart k i u l (sym (ctab-channel rs c p placed k (omega arith)) ∙ x)))
 
   cntt-stands : (j : ℕ) → j < m → CnttMore c p n q j (p + 35 * length rs + 10 * j)
   cntt-stands j l =
@@ -106,9 +106,9 @@ module _ (rs : List Record) (whole : (i : ℕ) → i < length rs → Whole (getD
           value-there n m (ctabChannel First c p) (cnttChannel c q) (home rs) valueAt (follows rs c p placed apart) i (h .0) (h .1) (h .2) ∙ ap Value (cntt-value rs c p placed (h .0) (h .1)) ∙ sym w
 
   record-back : (i : ℕ) → i < length rs → recordAt First c p q m i ≡ getD rs i blank
-  unfolding recordAt
+  unfolding recordAt ctabBytes fileBytes
   record-back i l =
-      ap₂ recordOf (held-at c (p + 35 * i) (getD rs i blank) _ (placed .ctab i l)) (second-back i l) ∙ bytes-read (getD rs i blank) (whole i l)
+      ap₂ recordOf (held-at First c (p + 35 * i) (bytesOf (getD rs i blank)) _ (bytes-length (getD rs i blank)) (placed .ctab i l)) (second-back i l) ∙ bytes-read (getD rs i blank) (whole i l)
 
   pub records-back : rows (recordAt First c p q m) 0 n ≡ rs
   records-back = rows-is (recordAt First c p q m) blank rs record-back
