@@ -5,7 +5,7 @@ use native.Mathlib.Omega.{arith}
 use Rattle.layout.specs.declared.record.Record.{Record}
 use Rattle.law_refusals.specs.Heads.{HeadRefused, header-cut, other-tag, length-past}
 use Rattle.law_refusals.specs.File.{FileRefused, file-over, not-style, section-cut, section-past, tag-again, no-casm, casm-over}
-use Rattle.law_refusals.specs.Contents.{ContentsRefused, sdec-head, sdec-text, ctab-head, ctab-size, ctab-byte, ctab-again, cntt-head, cntt-size, cntt-channel, cntt-value, cntt-again, cntt-stray, cntt-order}
+use Rattle.law_refusals.specs.Contents.{ContentsRefused, sdec-head, sdec-text, of-ctab, ctab-head, ctab-size, ctab-byte, ctab-again, cntt-head, cntt-size, cntt-channel, cntt-value, cntt-again, cntt-stray, cntt-order}
 use Rattle.law_refusals.specs.Body.{GroupRefused, group-head, group-empty, group-contents, BodyRefused, body-over, head-refused, too-many, group-refused, name-again}
 use Rattle.law_refusals.specs.After.{GroupAsked, of-body, no-group, RecordsAsked, of-group, no-room, PartAsked, part-of-body, no-part}
 use Rattle.law_refusals.specs.After.{PlayersAsked, players-of-body, root-over, type-over, no-players, ChannelAsked, channel-of-group, no-channel, EditAsked, edit-of-channel, other-source, new-byte}
@@ -33,10 +33,10 @@ head-above s at tag _ (length-past a b c) = omega arith
 contents-above : (c : List ℕ) → Above (ContentsRefused c)
 contents-above c _ _ (sdec-head number h) = head-above c _ _ number h
 contents-above c _ _ (sdec-text a b) = omega arith
-contents-above c _ _ (ctab-head n number a b d h) = head-above c _ _ number h
-contents-above c _ _ (ctab-size n a b d) = omega arith
-contents-above c _ _ (ctab-byte n k a b d e) = omega arith
-contents-above c _ _ (ctab-again i n a b d e) = omega arith
+contents-above c _ _ (of-ctab _ _ (ctab-head n number a b d h)) = head-above c _ _ number h
+contents-above c _ _ (of-ctab _ _ (ctab-size n a b d)) = omega arith
+contents-above c _ _ (of-ctab _ _ (ctab-byte n k a b d e)) = omega arith
+contents-above c _ _ (of-ctab _ _ (ctab-again i n a b d e)) = omega arith
 contents-above c _ _ (cntt-head n j number a b h) = head-above c _ _ number h
 contents-above c _ _ (cntt-size n j a b d) = omega arith
 contents-above c _ _ (cntt-channel n j a b d e) = omega arith

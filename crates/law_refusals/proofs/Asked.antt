@@ -12,9 +12,9 @@ use Rattle.layout.specs.declared.turn.Run.{Run}
 use Rattle.layout.specs.declared.turn.Run.the-variants.{Stopped, Ended}
 use Rattle.layout.specs.declared.record.Record.{Record}
 use Rattle.layout.specs.declared.answer.Standing.{Standing}
-use Rattle.layout.specs.declared.edition.Edition.the-variants.{First}
+use Rattle.layout.specs.Editions.{held}
 use Rattle.layout.specs.Ranges.{outAt, firstOut}
-use Rattle.layout.specs.Records.{bytesOf, channelOf}
+use Rattle.layout.specs.Records.{bytesOf, channelOf, editionOf}
 use Rattle.layout.specs.Sdec.{names}
 use Rattle.layout.specs.Answers.{Answer, refused, granted, afterRun}
 use Rattle.layout.specs.Group.{ctabOf}
@@ -81,9 +81,9 @@ module _ (s : List ℕ) (n : ℕ) (name : List ℕ) where
       if-told (AnswerTold P) (leb n (groupNamed s n name)) _ _ (λ e. f (part-none (leb-true _ _ e))) (λ e. tell (groupNamed s n name))
 
 -- the first byte of a new record out of its range
-edited-byte : (new : Record) (k : ℕ) → k ≡ firstEdited new → k < 26 → FirstSuch (outAt First (bytesOf new) 0) 26 k
+edited-byte : (new : Record) (k : ℕ) → k ≡ firstEdited new → k < held (editionOf new) → FirstSuch (outAt (editionOf new) (bytesOf new) 0) (held (editionOf new)) k
 unfolding firstEdited firstOut
-edited-byte new k e l = rw e (first-such (outAt First (bytesOf new) 0) 26 (rw e at l))
+edited-byte new k e l = rw e (first-such (outAt (editionOf new) (bytesOf new) 0) (held (editionOf new)) (rw e at l))
 
 -- ---- the questions
 
@@ -137,6 +137,6 @@ module _ (s : List ℕ) where
         let k : ℕ = firstEdited new in
         of-channel-told P s g channel (λ number place h. edit-of-channel number place h) _ (λ row has.
         if-told (AnswerTold P) (not (eqb (channelOf new) channel)) _ _ (λ e. other-source has (eqb-false _ _ (not-true _ e))) (λ e.
-        if-told (AnswerTold P) (ltb k 26) _ _
+        if-told (AnswerTold P) (ltb k (held (editionOf new))) _ _
         (λ f. new-byte k has (eqb-true _ _ (not-false _ e)) (edited-byte new k refl (ltb-true _ _ f)))
         (λ f. tt)))

@@ -9,9 +9,9 @@ use lib.ListN.{length}
 use borrow.Author.Tests.{lt-ltb, le-leb, lt-leb, eq-eqb, ne-eqb}
 use Rattle.layout.specs.declared.record.Record.{Record}
 use Rattle.layout.specs.Lists.{has}
-use Rattle.layout.specs.declared.edition.Edition.the-variants.{First}
+use Rattle.layout.specs.Editions.{held}
 use Rattle.layout.specs.Ranges.{outAt, firstOut}
-use Rattle.layout.specs.Records.{bytesOf, channelOf}
+use Rattle.layout.specs.Records.{bytesOf, channelOf, editionOf}
 use Rattle.layout.specs.Sdec.{names}
 use Rattle.layout.specs.Answers.{Answer, refused, afterRun}
 use Rattle.layout.specs.Body.{groupPlace, textAt, bodyRead, groupNo}
@@ -106,13 +106,13 @@ module _ (s : List ℕ) where
     voice-answers h = channel-not g channel _ number place h
 
   -- the first byte of a new record out of its range
-  first-edited : (new : Record) (k : ℕ) → FirstSuch (outAt First (bytesOf new) 0) 26 k → firstEdited new ≡ k
+  first-edited : (new : Record) (k : ℕ) → FirstSuch (outAt (editionOf new) (bytesOf new) 0) (held (editionOf new)) k → firstEdited new ≡ k
   unfolding firstEdited firstOut
-  first-edited new k f = first-is (outAt First (bytesOf new) 0) 26 k (f .within) (f .passes) (f .before)
+  first-edited new k f = first-is (outAt (editionOf new) (bytesOf new) 0) (held (editionOf new)) k (f .within) (f .passes) (f .before)
 
   pub edit-answers : (g channel : ℕ) (new : Record) (number place : ℕ) → EditAsked s g channel new number place → edited s g channel new ≡ refused number place
   unfolding edited
   edit-answers g channel new _ _ (edit-of-channel number place h) = channel-not g channel _ number place h
   edit-answers g channel new _ _ (other-source h f) = channel-so g channel _ h ∙ rw (ne-eqb (channelOf new) channel f)
   edit-answers g channel new _ _ (new-byte k h e f) =
-      channel-so g channel _ h ∙ rw (eq-eqb (channelOf new) channel e, first-edited new k f, lt-ltb k 26 (f .within))
+      channel-so g channel _ h ∙ rw (eq-eqb (channelOf new) channel e, first-edited new k f, lt-ltb k (held (editionOf new)) (f .within))

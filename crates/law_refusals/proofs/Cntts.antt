@@ -21,13 +21,13 @@ use Rattle.law_refusals.proofs.Told.{TurnTold, RunTold, if-told, run-to
 use Rattle.law_refusals.proofs.Heads.{head-told, headed}
 use Rattle.law_refusals.proofs.Ctabs.{ctab-only}
 
-module _ (c : List ℕ) (n : ℕ) (ctabs : CtabsBefore c n) (over : ctabTag c n < length c → (ctabTag c n + 8 ≤ length c) × (tagAt c (ctabTag c n) ≡ Cntt)) (within : ctabTag c n ≤ length c) where
+module _ (c : List ℕ) (n : ℕ) (ctabs : CtabsBefore First c n) (over : ctabTag First c n < length c → (ctabTag First c n + 8 ≤ length c) × (tagAt c (ctabTag First c n) ≡ Cntt)) (within : ctabTag First c n ≤ length c) where
   -- where the Ctabs begin, and where the Cntts do
   abbrev p : ℕ
   p = 8 + word c 4
 
   abbrev q : ℕ
-  q = ctabTag c n
+  q = ctabTag First c n
 
   abbrev Kept : ℕ → Type 0
   Kept j = (cnttTag c n j ≤ length c) × CnttsBefore c n j
@@ -49,7 +49,7 @@ module _ (c : List ℕ) (n : ℕ) (ctabs : CtabsBefore c n) (over : ctabTag c n 
       go false false true f g h z = absurd (omega arith)
       go false false false f g h z = (ltb-false _ _ f, (leb-false _ _ g, h))
 
-  in-order : (j a b : ℕ) → outOfOrder c p n q j (cnttSource c n j) ≡ false → 0 < j → a < n → b < n → ctabSource c a ≡ cnttSource c n (j - 1) → ctabSource c b ≡ cnttSource c n j → a ≤ b
+  in-order : (j a b : ℕ) → outOfOrder c p n q j (cnttSource c n j) ≡ false → 0 < j → a < n → b < n → ctabSource First c a ≡ cnttSource c n (j - 1) → ctabSource First c b ≡ cnttSource c n j → a ≤ b
   unfolding outOfOrder
   in-order j a b e l f g h i =
       let x : ctabOf First c p n (cnttSource c n (j - 1)) ≡ a = ctab-only c n a (cnttSource c n (j - 1)) ctabs f h in

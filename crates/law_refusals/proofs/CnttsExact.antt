@@ -41,7 +41,7 @@ module _ (c : List ℕ) (n : ℕ) where
   p = 8 + word c 4
 
   abbrev q : ℕ
-  q = ctabTag c n
+  q = ctabTag First c n
 
   module _ (j : ℕ) where
     abbrev at : ℕ
@@ -84,7 +84,7 @@ module _ (c : List ℕ) (n : ℕ) where
     fault-again i l e = rw (lt-ltb (cnttOf c q j (cnttSource c n j)) j (cntt-has c q j (cnttSource c n j) i l e))
 
     module _ (own : (i : ℕ) → i < j → cnttSource c n i ≡ cnttSource c n j → ⊥) where
-      pub fault-stray : ((i : ℕ) → i < n → ctabSource c i ≡ cnttSource c n j → ⊥) → cnttFault c p n q j (cnttSource c n j) ≡ 11
+      pub fault-stray : ((i : ℕ) → i < n → ctabSource First c i ≡ cnttSource c n j → ⊥) → cnttFault c p n q j (cnttSource c n j) ≡ 11
       unfolding cnttFault
       fault-stray f =
           rw (
@@ -100,7 +100,7 @@ module _ (c : List ℕ) (n : ℕ) where
 
   module _ (j : ℕ) (b : CnttsBefore c n j) where
     -- the Ctabs of a Cntt and of the one before it
-    order-so : (i x y : ℕ) → 0 < i → x < n → y < n → ctabSource c x ≡ cnttSource c n i → ctabSource c y ≡ cnttSource c n (i - 1) → x < y
+    order-so : (i x y : ℕ) → 0 < i → x < n → y < n → ctabSource First c x ≡ cnttSource c n i → ctabSource First c y ≡ cnttSource c n (i - 1) → x < y
         → outOfOrder c p n q i (cnttSource c n i) ≡ true
     unfolding outOfOrder
     order-so i x y l h k e f m =
@@ -127,7 +127,7 @@ module _ (c : List ℕ) (n : ℕ) where
         turn-more i (h .cntt) (fault-order i (h .apart) (ctab-has First c p n (cnttSource c n i) (home .0) (home .1 .0) (home .1 .1)) false (order-not i l))
 
     pub fault-late : (x y : ℕ) → ((i : ℕ) → i < j → cnttSource c n i ≡ cnttSource c n j → ⊥) → 0 < j → x < y → y < n
-        → ctabSource c x ≡ cnttSource c n j → ctabSource c y ≡ cnttSource c n (j - 1) → cnttFault c p n q j (cnttSource c n j) ≡ 11
+        → ctabSource First c x ≡ cnttSource c n j → ctabSource First c y ≡ cnttSource c n (j - 1) → cnttFault c p n q j (cnttSource c n j) ≡ 11
     fault-late x y own l m k e f =
         fault-order j own (ctab-has First c p n (cnttSource c n j) x (omega arith) e) true (order-so j x y l (omega arith) k e f m)
 
@@ -135,7 +135,7 @@ module _ (c : List ℕ) (n : ℕ) where
     cntts-within = go j refl
       where
         go : (k : ℕ) → k ≡ j → cnttTag c n k ≤ length c
-        go zero e = omega (arith, ctabs-within c n (b .ctabs))
+        go zero e = omega (arith, ctabs-within First c n (b .ctabs))
         go (suc k) e = let h = b .cntts k (omega arith) .cntt in omega (arith, h .head .within, h .size)
 
     pub cntts-stop : (number place : ℕ) → cnttTurn c p n q j ≡ Refused number place → cnttsOf c p n ≡ Stopped number place

@@ -5,15 +5,17 @@ use mathlib.Core.Bool.{true, false}
 use mathlib.Core.List.{List}
 use native.Mathlib.Omega.{arith}
 use native.Mathlib.Decide.{decLt}
+use lib.Dec.{eqb}
 use lib.ListN.{length, getD}
-use borrow.Author.Tests.{lt-ltb, le-ltb, ne-eqb}
+use borrow.Author.Tests.{lt-ltb, le-ltb, eq-eqb, ne-eqb}
 use Rattle.layout.specs.declared.turn.Turn.the-variants.{Refused, More, Done}
 use Rattle.layout.specs.declared.turn.Run.the-variants.{Stopped, Ended}
-use Rattle.layout.specs.Bytes.{word, tagAt, Ctab, Cntt}
+use Rattle.layout.specs.Bytes.{word, tagAt, Cntt}
 use Rattle.layout.specs.declared.edition.Edition.{Edition}
-use Rattle.layout.specs.declared.edition.Edition.the-variants.{First}
+use Rattle.layout.specs.declared.edition.Edition.the-variants.{First, Second}
+use Rattle.layout.specs.Editions.{tagOf, size}
 use Rattle.layout.specs.Ranges.{outAt, firstOut}
-use Rattle.layout.specs.Group.{ctabsOver, ctabChannel, ctabOf, ctabAt, ctabTurn, ctabsOf}
+use Rattle.layout.specs.Group.{ctabsOver, ctabPlace, ctabChannel, ctabOf, ctabAt, ctabTurn, ctabsOf}
 use Rattle.layout.proofs.Scans.{first-none}
 use Rattle.layout.proofs.Ctabs.{over-end, over-cut, over-tag}
 use Rattle.law_refusals.specs.Heads.{HeadRefused, Headed}
@@ -22,8 +24,14 @@ use Rattle.law_refusals.proofs.Reached.{run-reaches, run-comes-to, tagg
 use Rattle.layout.proofs.Seen.{ctab-seen, ctab-unseen}
 
 -- a Ctab is no Cntt
-apart-tags : (t : List ℕ) → t ≡ Ctab → t ≡ Cntt → ⊥
-apart-tags t e f = let z : _≡_ {A = ℕ} 0x74 0x6E = ap (λ l. getD l 1 0) (sym e ∙ f) in omega arith
+apart-tags : (e : Edition) (t : List ℕ) → t ≡ tagOf e → t ≡ Cntt → ⊥
+apart-tags First t e f = let z : _≡_ {A = ℕ} 0x74 0x6E = ap (λ l. getD l 1 0) (sym e ∙ f) in omega arith
+apart-tags Second t e f = let z : _≡_ {A = ℕ} 0x74 0x6E = ap (λ l. getD l 1 0) (sym e ∙ f) in omega arith
+
+-- they are fewer than the bytes
+few : (e : Edition) (p n end : ℕ) → ctabPlace e p n ≤ end → n < end + 1
+few First p n end h = omega arith
+few Second p n end h = omega arith
 
 -- whether a channel stands among n Ctabs
 module _ (ed : Edition) (c : List ℕ) (p n channel : ℕ) where
@@ -50,9 +58,6 @@ module _ (c : List ℕ) where
       go (yes a) = over-cut c at (λ e. absurd (omega arith)) a
       go (no a) = let h : at + 8 ≤ length c = omega arith in over-tag c at (λ e. absurd (omega arith)) h ∙ tagged-not c at Cntt (f h)
 
-  ctab-not-over : (at : ℕ) → Headed c at Ctab → ctabsOver c at ≡ false
-  ctab-not-over at h = let w = h .within in not-over at (omega arith) (λ l. apart-tags (tagAt c at) (h .tagged))
-
   -- where no Ctab follows
   over-so : (at : ℕ) → at ≤ length c → (at < length c → (at + 8 ≤ length c) × (tagAt c at ≡ Cntt)) → ctabsOver c at ≡ true
   over-so at l f = go (decLt at (length c))
@@ -61,63 +66,70 @@ module _ (c : List ℕ) where
       go (yes a) = let h = f a in over-tag c at (λ e. absurd (omega arith)) (h .0) ∙ tagged-so c at Cntt (h .1)
       go (no a) = over-end c at (omega arith)
 
+module _ (ed : Edition) (c : List ℕ) where
+  ctab-not-over : (at : ℕ) → Headed c at (tagOf ed) → ctabsOver c at ≡ false
+  ctab-not-over at h = let w = h .within in not-over c at (omega arith) (λ l. apart-tags ed (tagAt c at) (h .tagged))
+
   module _ (n : ℕ) where
     abbrev at : ℕ
-    at = ctabTag c n
+    at = ctabTag ed c n
 
     abbrev p : ℕ
     p = 8 + word c 4
 
-    pub turn-head : (number : ℕ) → (number ≡ 0 → ⊥) → at < length c → (at + 8 ≤ length c → tagAt c at ≡ Cntt → ⊥) → HeadRefused c at Ctab number
-        → ctabTurn First c p n ≡ Refused number at
+    pub turn-head : (number : ℕ) → (number ≡ 0 → ⊥) → at < length c → (at + 8 ≤ length c → tagAt c at ≡ Cntt → ⊥) → HeadRefused c at (tagOf ed) number
+        → ctabTurn ed c p n ≡ Refused number at
     unfolding ctabTurn ctabAt
-    turn-head number z l f h = rw (not-over at l f, head-is c at Ctab number h, ne-eqb number 0 z)
+    turn-head number z l f h = rw (not-over c at l f, head-is c at (tagOf ed) number h, ne-eqb number 0 z)
 
-    module _ (h : Headed c at Ctab) where
-      pub turn-size : (word c (at + 4) ≡ 27 → ⊥) → ctabTurn First c p n ≡ Refused 7 at
+    module _ (h : Headed c at (tagOf ed)) where
+      pub turn-size : (word c (at + 4) ≡ size ed → ⊥) → ctabTurn ed c p n ≡ Refused 7 at
       unfolding ctabTurn ctabAt
-      turn-size f = rw (ctab-not-over at h, head-none c at Ctab h, ne-eqb (word c (at + 4)) 27 f)
+      turn-size f = rw (ctab-not-over at h, head-none c at (tagOf ed) h, ne-eqb (word c (at + 4)) (size ed) f)
 
-      pub turn-byte : (k : ℕ) → word c (at + 4) ≡ 27 → FirstSuch (outAt First c (at + 8)) 27 k → ctabTurn First c p n ≡ Refused 9 (at + 8 + k)
+      pub turn-byte : (k : ℕ) → word c (at + 4) ≡ size ed → FirstSuch (outAt ed c (at + 8)) (size ed) k → ctabTurn ed c p n ≡ Refused 9 (at + 8 + k)
       unfolding ctabTurn ctabAt firstOut
-      turn-byte k size f =
-          rw (ctab-not-over at h, head-none c at Ctab h, size, such-first (outAt First c (at + 8)) 27 k f, lt-ltb k 27 (f .within))
+      turn-byte k long f =
+          rw (ctab-not-over at h, head-none c at (tagOf ed) h, eq-eqb (word c (at + 4)) (size ed) long, such-first (outAt ed c (at + 8)) (size ed) k f, lt-ltb k (size ed) (f .within))
 
-    module _ (w : CtabInRange c n) where
-      all-in : firstOut First c (at + 8) 27 ≡ 27
+    module _ (w : CtabInRange ed c n) where
+      all-in : firstOut ed c (at + 8) (size ed) ≡ size ed
       unfolding firstOut
-      all-in = first-none (outAt First c (at + 8)) 27 (w .inside)
+      all-in = first-none (outAt ed c (at + 8)) (size ed) (w .inside)
 
-      pub turn-again : (i : ℕ) → i < n → ctabSource c i ≡ ctabSource c n → ctabTurn First c p n ≡ Refused 10 at
+      sized : eqb (word c (at + 4)) (size ed) ≡ true
+      sized = eq-eqb (word c (at + 4)) (size ed) (w .length)
+
+      pub turn-again : (i : ℕ) → i < n → ctabSource ed c i ≡ ctabSource ed c n → ctabTurn ed c p n ≡ Refused 10 at
       unfolding ctabTurn ctabAt ctabChannel
       turn-again i l e =
-          rw (ctab-not-over at (w .head), head-none c at Ctab (w .head), w .length, all-in, lt-ltb (ctabOf First c p n (getD c (at + 8) 0)) n (ctab-has First c p n (getD c (at + 8) 0) i l e))
+          rw (ctab-not-over at (w .head), head-none c at (tagOf ed) (w .head), sized, all-in, le-ltb (size ed) (size ed) (omega arith), lt-ltb (ctabOf ed c p n (getD c (at + 8) 0)) n (ctab-has ed c p n (getD c (at + 8) 0) i l e))
 
-      pub turn-more : ((i : ℕ) → i < n → ctabSource c i ≡ ctabSource c n → ⊥) → ctabTurn First c p n ≡ More
+      pub turn-more : ((i : ℕ) → i < n → ctabSource ed c i ≡ ctabSource ed c n → ⊥) → ctabTurn ed c p n ≡ More
       unfolding ctabTurn ctabAt ctabChannel
       turn-more f =
-          rw (ctab-not-over at (w .head), head-none c at Ctab (w .head), w .length, all-in, le-ltb (ctabOf First c p n (getD c (at + 8) 0)) n (ctab-has-not First c p n (getD c (at + 8) 0) f))
+          rw (ctab-not-over at (w .head), head-none c at (tagOf ed) (w .head), sized, all-in, le-ltb (size ed) (size ed) (omega arith), le-ltb (ctabOf ed c p n (getD c (at + 8) 0)) n (ctab-has-not ed c p n (getD c (at + 8) 0) f))
 
-    turn-over : at ≤ length c → (at < length c → (at + 8 ≤ length c) × (tagAt c at ≡ Cntt)) → ctabTurn First c p n ≡ Done
+    turn-over : at ≤ length c → (at < length c → (at + 8 ≤ length c) × (tagAt c at ≡ Cntt)) → ctabTurn ed c p n ≡ Done
     unfolding ctabTurn ctabAt
-    turn-over l f = rw (over-so at l f)
+    turn-over l f = rw (over-so c at l f)
 
-  module _ (n : ℕ) (b : CtabsBefore c n) where
-    before-more : (i : ℕ) → i < n → ctabTurn First c (8 + word c 4) i ≡ More
+  module _ (n : ℕ) (b : CtabsBefore ed c n) where
+    before-more : (i : ℕ) → i < n → ctabTurn ed c (8 + word c 4) i ≡ More
     before-more i l = let h = b .ctabs i l in turn-more i (h .ctab) (h .apart)
 
     -- the Ctabs before stand within the contents
-    pub ctabs-within : ctabTag c n ≤ length c
+    pub ctabs-within : ctabTag ed c n ≤ length c
     ctabs-within = go n refl
       where
-        go : (k : ℕ) → k ≡ n → ctabTag c k ≤ length c
+        go : (k : ℕ) → k ≡ n → ctabTag ed c k ≤ length c
         go zero e = omega (arith, b .sdec .within)
         go (suc k) e = let h = b .ctabs k (omega arith) .ctab in omega (arith, h .head .within, h .length)
 
-    pub ctabs-stop : (number place : ℕ) → ctabTurn First c (8 + word c 4) n ≡ Refused number place → ctabsOf First c (8 + word c 4) ≡ Stopped number place
+    pub ctabs-stop : (number place : ℕ) → ctabTurn ed c (8 + word c 4) n ≡ Refused number place → ctabsOf ed c (8 + word c 4) ≡ Stopped number place
     unfolding ctabsOf
-    ctabs-stop number place t = run-reaches (ctabTurn First c (8 + word c 4)) (length c + 1) n number place (omega (arith, ctabs-within)) before-more t
+    ctabs-stop number place t = run-reaches (ctabTurn ed c (8 + word c 4)) (length c + 1) n number place (few ed _ n _ ctabs-within) before-more t
 
-    pub ctabs-over : (ctabTag c n < length c → (ctabTag c n + 8 ≤ length c) × (tagAt c (ctabTag c n) ≡ Cntt)) → ctabsOf First c (8 + word c 4) ≡ Ended n
+    pub ctabs-over : (ctabTag ed c n < length c → (ctabTag ed c n + 8 ≤ length c) × (tagAt c (ctabTag ed c n) ≡ Cntt)) → ctabsOf ed c (8 + word c 4) ≡ Ended n
     unfolding ctabsOf
-    ctabs-over f = run-comes-to (ctabTurn First c (8 + word c 4)) (length c + 1) n (omega (arith, ctabs-within)) before-more (turn-over n ctabs-within f)
+    ctabs-over f = run-comes-to (ctabTurn ed c (8 + word c 4)) (length c + 1) n (few ed _ n _ ctabs-within) before-more (turn-over n ctabs-within f)

@@ -15,7 +15,7 @@ use Rattle.layout.specs.Bytes.{word, CSEG, Sdec}
 use Rattle.layout.specs.Sdec.{soundText}
 use Rattle.layout.specs.Group.{headFault, ctabsOf, cnttsOf, afterCtabs, afterCntts, contents, payload, behindHeader, groupAt}
 use Rattle.law_refusals.specs.Heads.{Headed}
-use Rattle.law_refusals.specs.Contents.{ContentsRefused, sdec-head, sdec-text}
+use Rattle.law_refusals.specs.Contents.{CtabRefused, ContentsRefused, sdec-head, sdec-text, of-ctab}
 use Rattle.law_refusals.specs.Body.{GroupRefused, group-head, group-empty, group-contents}
 use Rattle.law_refusals.proofs.Told.{RunTold, JudgedTold, if-told}
 use Rattle.law_refusals.proofs.Heads.{head-told, headed}
@@ -29,12 +29,12 @@ module _ (c : List ℕ) where
   cntts-judged text n (Stopped number place) h = h
   cntts-judged text n (Ended m) h = tt
 
-  ctabs-judged : Headed c 0 Sdec → soundText (take (word c 4) (drop 8 c)) ≡ true → (r : Run) → ctabsOf First c (8 + word c 4) ≡ r → RunTold (ContentsRefused c) r
+  ctabs-judged : Headed c 0 Sdec → soundText (take (word c 4) (drop 8 c)) ≡ true → (r : Run) → ctabsOf First c (8 + word c 4) ≡ r → RunTold (CtabRefused First c) r
       → JudgedTold (ContentsRefused c) (afterCtabs First c (word c 4) r)
   unfolding afterCtabs
-  ctabs-judged sdec text (Stopped number place) e h = h
+  ctabs-judged sdec text (Stopped number place) e h = of-ctab number place h
   ctabs-judged sdec text (Ended n) e h =
-      let r = ctabs-end c sdec text n e in
+      let r = ctabs-end First c sdec text n e in
       cntts-judged (word c 4) n (cnttsOf c (8 + word c 4) n) (cntts-told c n (r .0 .1) (r .1) (r .0 .0))
 
   pub contents-told : JudgedTold (ContentsRefused c) (contents c)
@@ -43,7 +43,7 @@ module _ (c : List ℕ) where
       if-told (JudgedTold (ContentsRefused c)) (not (eqb (headFault c 0 Sdec) 0)) _ _ (λ e. sdec-head (headFault c 0 Sdec) (head-told c 0 Sdec (not-true _ e))) (λ e.
       let h = headed c 0 Sdec (eqb-true _ _ (not-false _ e)) in
       if-told (JudgedTold (ContentsRefused c)) (not (soundText (take (word c 4) (drop 8 c)))) _ _ (λ f. sdec-text h (text-told _ (not-true _ f))) (λ f.
-      ctabs-judged h (not-false _ f) (ctabsOf First c (8 + word c 4)) refl (ctabs-told c h (not-false _ f))))
+      ctabs-judged h (not-false _ f) (ctabsOf First c (8 + word c 4)) refl (ctabs-told First c h (not-false _ f))))
 
 module _ (p : List ℕ) where
   behind-told : Headed p 0 CSEG → (word p 4 ≡ 0 → ⊥) → (r : Judged) → JudgedTold (ContentsRefused (payload p)) r → JudgedTold (GroupRefused p) (behindHeader r)

@@ -5,10 +5,11 @@ use mathlib.Core.Path.{_≡_}
 use mathlib.Core.Bool.{Bool, true, false}
 use mathlib.Core.List.{List}
 use lib.ListN.{length, getD, take, drop}
-use Rattle.layout.specs.Bytes.{word, tagAt, Sdec, Ctab, Cntt}
+use Rattle.layout.specs.Bytes.{word, tagAt, Sdec, Cntt}
 use Rattle.layout.specs.Refusals.{badSize, badText, outOfRange, channelAgain, strayCntt}
+use Rattle.layout.specs.declared.edition.Edition.{Edition}
 use Rattle.layout.specs.declared.edition.Edition.the-variants.{First}
-use Rattle.layout.specs.Editions.{size}
+use Rattle.layout.specs.Editions.{tagOf, size}
 use Rattle.layout.specs.Ranges.{outOf, outAt, cnttValue}
 use Rattle.layout.specs.Sdec.{soundText}
 use Rattle.layout.specs.Group.{ctabPlace, ctabChannel, cnttPlace, cnttChannel}
@@ -23,41 +24,42 @@ pub record FirstSuch (test : ℕ → Bool) (n k : ℕ) : Type 0 where
 
 -- ---- where the children stand, and whose they are
 
-module _ (c : List ℕ) where
-  -- the tag of Ctab number n, after the Sdec and n Ctabs
+module _ (e : Edition) (c : List ℕ) where
+  -- the tag of Ctab number n of an edition, after the Sdec and n Ctabs
   abbrev pub ctabTag : ℕ → ℕ
-  ctabTag n = ctabPlace First (8 + word c 4) n
+  ctabTag n = ctabPlace e (8 + word c 4) n
 
   -- its source channel
   abbrev pub ctabSource : ℕ → ℕ
-  ctabSource n = ctabChannel First c (8 + word c 4) n
+  ctabSource n = ctabChannel e c (8 + word c 4) n
 
-  -- the tag of Cntt number j after n Ctabs
+module _ (c : List ℕ) where
+  -- the tag of Cntt number j after n Ctabs; Cntts are the first edition's alone
   abbrev pub cnttTag : ℕ → ℕ → ℕ
-  cnttTag n j = cnttPlace (ctabTag n) j
+  cnttTag n j = cnttPlace (ctabTag First c n) j
 
   -- its source channel
   abbrev pub cnttSource : ℕ → ℕ → ℕ
-  cnttSource n j = cnttChannel c (ctabTag n) j
+  cnttSource n j = cnttChannel c (ctabTag First c n) j
 
 -- ---- the children before
 
 -- Ctab number n: its header, its size, its bytes in range
-pub record CtabInRange (c : List ℕ) (n : ℕ) : Type 0 where
-  pub head : Headed c (ctabTag c n) Ctab
-  pub length : word c (ctabTag c n + 4) ≡ size First
-  pub inside : (k : ℕ) → k < size First → outAt First c (ctabTag c n + 8) k ≡ false
+pub record CtabInRange (e : Edition) (c : List ℕ) (n : ℕ) : Type 0 where
+  pub head : Headed c (ctabTag e c n) (tagOf e)
+  pub length : word c (ctabTag e c n + 4) ≡ size e
+  pub inside : (k : ℕ) → k < size e → outAt e c (ctabTag e c n + 8) k ≡ false
 
 -- .. and its source channel its own
-pub record CtabStands (c : List ℕ) (n : ℕ) : Type 0 where
-  pub ctab : CtabInRange c n
-  pub apart : (i : ℕ) → i < n → ctabSource c i ≡ ctabSource c n → ⊥
+pub record CtabStands (e : Edition) (c : List ℕ) (n : ℕ) : Type 0 where
+  pub ctab : CtabInRange e c n
+  pub apart : (i : ℕ) → i < n → ctabSource e c i ≡ ctabSource e c n → ⊥
 
 -- a sound Sdec, then n Ctabs
-pub record CtabsBefore (c : List ℕ) (n : ℕ) : Type 0 where
+pub record CtabsBefore (e : Edition) (c : List ℕ) (n : ℕ) : Type 0 where
   pub sdec : Headed c 0 Sdec
   pub text : soundText (take (word c 4) (drop 8 c)) ≡ true
-  pub ctabs : (i : ℕ) → i < n → CtabStands c i
+  pub ctabs : (i : ℕ) → i < n → CtabStands e c i
 
 -- Cntt number j after n Ctabs: its header, its size, its two bytes in range
 pub record CnttInRange (c : List ℕ) (n j : ℕ) : Type 0 where
@@ -70,32 +72,37 @@ pub record CnttInRange (c : List ℕ) (n j : ℕ) : Type 0 where
 pub record CnttStands (c : List ℕ) (n j : ℕ) : Type 0 where
   pub cntt : CnttInRange c n j
   pub apart : (i : ℕ) → i < j → cnttSource c n i ≡ cnttSource c n j → ⊥
-  pub home : (i : ℕ) × ((i < n) × (ctabSource c i ≡ cnttSource c n j))
-  pub order : (a b : ℕ) → 0 < j → a < n → b < n → ctabSource c a ≡ cnttSource c n (j - 1) → ctabSource c b ≡ cnttSource c n j → a ≤ b
+  pub home : (i : ℕ) × ((i < n) × (ctabSource First c i ≡ cnttSource c n j))
+  pub order : (a b : ℕ) → 0 < j → a < n → b < n → ctabSource First c a ≡ cnttSource c n (j - 1) → ctabSource First c b ≡ cnttSource c n j → a ≤ b
 
 -- a sound Sdec, then n Ctabs and no more, then j Cntts
 pub record CnttsBefore (c : List ℕ) (n j : ℕ) : Type 0 where
-  pub ctabs : CtabsBefore c n
-  pub over : ctabTag c n < length c → (ctabTag c n + 8 ≤ length c) × (tagAt c (ctabTag c n) ≡ Cntt)
+  pub ctabs : CtabsBefore First c n
+  pub over : ctabTag First c n < length c → (ctabTag First c n + 8 ≤ length c) × (tagAt c (ctabTag First c n) ≡ Cntt)
   pub cntts : (i : ℕ) → i < j → CnttStands c n i
 
 -- ---- the refusals of the contents: number and place
+
+-- those of the Ctabs of an edition
+pub data CtabRefused (e : Edition) (c : List ℕ) : ℕ → ℕ → Type 0 where
+  -- 2, 6, 2: a child's header after n Ctabs, at its tag; it is no Cntt
+  ctab-head : (n number : ℕ) → CtabsBefore e c n → ctabTag e c n < length c → (ctabTag e c n + 8 ≤ length c → tagAt c (ctabTag e c n) ≡ Cntt → ⊥)
+      → HeadRefused c (ctabTag e c n) (tagOf e) number → CtabRefused e c number (ctabTag e c n)
+  -- 7: "Ctab not 27", at its tag
+  ctab-size : (n : ℕ) → CtabsBefore e c n → Headed c (ctabTag e c n) (tagOf e) → (word c (ctabTag e c n + 4) ≡ size e → ⊥) → CtabRefused e c badSize (ctabTag e c n)
+  -- 9: "byte out of range, first one", at the byte
+  ctab-byte : (n k : ℕ) → CtabsBefore e c n → Headed c (ctabTag e c n) (tagOf e) → word c (ctabTag e c n + 4) ≡ size e
+      → FirstSuch (outAt e c (ctabTag e c n + 8)) (size e) k → CtabRefused e c outOfRange (ctabTag e c n + 8 + k)
+  -- 10: "second Ctab .. of a channel", at the later tag
+  ctab-again : (i n : ℕ) → CtabsBefore e c n → CtabInRange e c n → i < n → ctabSource e c i ≡ ctabSource e c n → CtabRefused e c channelAgain (ctabTag e c n)
 
 pub data ContentsRefused (c : List ℕ) : ℕ → ℕ → Type 0 where
   -- 2, 6, 2: the Sdec's header, at its tag
   sdec-head : (number : ℕ) → HeadRefused c 0 Sdec number → ContentsRefused c number 0
   -- 8: "a rule on one Sdec's length, bytes or names broken", at the Sdec tag
   sdec-text : Headed c 0 Sdec → TextBroken (take (word c 4) (drop 8 c)) → ContentsRefused c badText 0
-  -- 2, 6, 2: a child's header after n Ctabs, at its tag; it is no Cntt
-  ctab-head : (n number : ℕ) → CtabsBefore c n → ctabTag c n < length c → (ctabTag c n + 8 ≤ length c → tagAt c (ctabTag c n) ≡ Cntt → ⊥)
-      → HeadRefused c (ctabTag c n) Ctab number → ContentsRefused c number (ctabTag c n)
-  -- 7: "Ctab not 27", at its tag
-  ctab-size : (n : ℕ) → CtabsBefore c n → Headed c (ctabTag c n) Ctab → (word c (ctabTag c n + 4) ≡ size First → ⊥) → ContentsRefused c badSize (ctabTag c n)
-  -- 9: "byte out of range, first one", at the byte
-  ctab-byte : (n k : ℕ) → CtabsBefore c n → Headed c (ctabTag c n) Ctab → word c (ctabTag c n + 4) ≡ size First
-      → FirstSuch (outAt First c (ctabTag c n + 8)) (size First) k → ContentsRefused c outOfRange (ctabTag c n + 8 + k)
-  -- 10: "second Ctab .. of a channel", at the later tag
-  ctab-again : (i n : ℕ) → CtabsBefore c n → CtabInRange c n → i < n → ctabSource c i ≡ ctabSource c n → ContentsRefused c channelAgain (ctabTag c n)
+  -- a refusal of a Ctab
+  of-ctab : (number place : ℕ) → CtabRefused First c number place → ContentsRefused c number place
   -- 2, 6, 2: a child's header after n Ctabs and j Cntts, at its tag
   cntt-head : (n j number : ℕ) → CnttsBefore c n j → cnttTag c n j < length c → HeadRefused c (cnttTag c n j) Cntt number → ContentsRefused c number (cnttTag c n j)
   -- 7: "Cntt not 2", at its tag
@@ -110,8 +117,8 @@ pub data ContentsRefused (c : List ℕ) : ℕ → ℕ → Type 0 where
   cntt-again : (i n j : ℕ) → CnttsBefore c n j → CnttInRange c n j → i < j → cnttSource c n i ≡ cnttSource c n j → ContentsRefused c channelAgain (cnttTag c n j)
   -- 11: "Cntt without Ctab", at its tag
   cntt-stray : (n j : ℕ) → CnttsBefore c n j → CnttInRange c n j → ((i : ℕ) → i < j → cnttSource c n i ≡ cnttSource c n j → ⊥)
-      → ((i : ℕ) → i < n → ctabSource c i ≡ cnttSource c n j → ⊥)
+      → ((i : ℕ) → i < n → ctabSource First c i ≡ cnttSource c n j → ⊥)
       → ContentsRefused c strayCntt (cnttTag c n j)
   -- 11: "or out of order", at its tag: its Ctab stands before that of the Cntt before it
   cntt-order : (n j a b : ℕ) → CnttsBefore c n j → CnttInRange c n j → ((i : ℕ) → i < j → cnttSource c n i ≡ cnttSource c n j → ⊥) → 0 < j → a < b → b < n
-      → ctabSource c a ≡ cnttSource c n j → ctabSource c b ≡ cnttSource c n (j - 1) → ContentsRefused c strayCntt (cnttTag c n j)
+      → ctabSource First c a ≡ cnttSource c n j → ctabSource First c b ≡ cnttSource c n (j - 1) → ContentsRefused c strayCntt (cnttTag c n j)
