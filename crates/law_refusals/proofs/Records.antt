@@ -8,9 +8,9 @@ use lib.Dec.{ltb, leb, eqb}
 use lib.ListN.{length}
 use borrow.Author.Tests.{ltb-true, ltb-false, leb-true, leb-false, eqb-true, eqb-false}
 use Rattle.layout.specs.declared.record.Record.{Record}
-use Rattle.layout.specs.declared.edition.Edition.the-variants.{First}
+use Rattle.layout.specs.Editions.{held}
 use Rattle.layout.specs.Ranges.{outOf, ruleAt}
-use Rattle.layout.specs.Records.{bytesOf, badByte, firstBad}
+use Rattle.layout.specs.Records.{bytesOf, editionOf, badByte, firstBad}
 use Rattle.layout.specs.Salvage.{salvage, listNumbers, salvaged}
 use Rattle.layout.specs.Place.{effective, bypass, notePlaced}
 use Rattle.layout.specs.Screen.{fieldSet}
@@ -24,13 +24,13 @@ use Rattle.law_refusals.proofs.Heads.{first-such}
 -- ---- one record in memory
 
 module _ (r : Record) where
-  pub bad-byte : firstBad r < 26 → FirstBadByte r (firstBad r)
+  pub bad-byte : firstBad r < held (editionOf r) → FirstBadByte r (firstBad r)
   unfolding firstBad
-  bad-byte h = first-such (badByte r) 26 h
+  bad-byte h = first-such (badByte r) (held (editionOf r)) h
 
-  pub in-range : 26 ≤ firstBad r → InRange r
+  pub in-range : held (editionOf r) ≤ firstBad r → InRange r
   unfolding firstBad
-  in-range h k l = first-passed (badByte r) 26 k (omega arith)
+  in-range h k l = first-passed (badByte r) (held (editionOf r)) k (omega arith)
 
   fixed : (root note : ℕ) → root < 12 → note < 128 → InRange r → not (bypass r) && eqb (r .rule) 1 ≡ true → PlaceRefused r root note 17 0
   unfolding bypass
@@ -50,7 +50,7 @@ module _ (r : Record) where
       let T = AnswerTold (PlaceRefused r root note) in
       if-told T (leb 12 root || leb 128 note) _ _ (λ e. over (leb 12 root) refl e) (λ e.
       let l = within (leb 12 root) (leb 128 note) refl refl e in
-      if-told T (ltb (firstBad r) 26) _ _ (λ f. record-byte (firstBad r) (l .0) (l .1) (bad-byte (ltb-true _ _ f))) (λ f.
+      if-told T (ltb (firstBad r) (held (editionOf r))) _ _ (λ f. record-byte (firstBad r) (l .0) (l .1) (bad-byte (ltb-true _ _ f))) (λ f.
       if-told T (not (bypass r) && eqb (r .rule) 1) _ _ (λ g. fixed root note (l .0) (l .1) (in-range (ltb-false _ _ f)) g) (λ g. tt)))
     where
       over : (a : Bool) → leb 12 root ≡ a → a || leb 128 note ≡ true → PlaceRefused r root note 16 0
@@ -66,8 +66,8 @@ module _ (r : Record) where
   unfolding fieldSet
   field-told index value =
       let T = AnswerTold (FieldRefused index value) in
-      if-told T (leb 26 index) _ _ (λ e. index-out (leb-true _ _ e)) (λ e.
-      if-told T (outOf First index (ruleAt (bytesOf r) 0 index) value) _ _ (λ f. value-out (leb-false _ _ e) (unruled-first index 0 (ruleAt (bytesOf r) 0 index) value ∙ f)) (λ f. tt))
+      if-told T (leb (held (editionOf r)) index) _ _ (λ e. index-out (leb-true _ _ e)) (λ e.
+      if-told T (outOf (editionOf r) index (ruleAt (bytesOf r) 0 index) value) _ _ (λ f. value-out (leb-false _ _ e) (unruled-first index 0 (ruleAt (bytesOf r) 0 index) value ∙ f)) (λ f. tt))
 
 -- ---- the salvage list
 

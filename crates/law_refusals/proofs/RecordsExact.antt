@@ -13,7 +13,8 @@ use Rattle.layout.specs.Ranges.{ruleAt}
 use Rattle.layout.specs.declared.turn.Turn.the-variants.{Refused, More}
 use Rattle.layout.specs.declared.turn.Run.the-variants.{Stopped, Ended}
 use Rattle.layout.specs.declared.record.Record.{Record}
-use Rattle.layout.specs.Records.{bytesOf, blank, channelOf, badByte, firstBad}
+use Rattle.layout.specs.Editions.{held}
+use Rattle.layout.specs.Records.{bytesOf, blank, channelOf, editionOf, badByte, firstBad}
 use Rattle.layout.specs.Answers.{refused, afterRun}
 use Rattle.layout.specs.Salvage.{salvage, listNumbers, salvaged}
 use Rattle.layout.specs.Place.{effective, bypass, notePlaced}
@@ -34,17 +35,17 @@ use Rattle.law_refusals.proofs.Written.{record-seen, record-unseen}
 module _ (r : Record) where
   bad-is : (k : ℕ) → FirstBadByte r k → firstBad r ≡ k
   unfolding firstBad
-  bad-is k f = such-first (badByte r) 26 k f
+  bad-is k f = such-first (badByte r) (held (editionOf r)) k f
 
-  bad-none : InRange r → firstBad r ≡ 26
+  bad-none : InRange r → firstBad r ≡ held (editionOf r)
   unfolding firstBad
-  bad-none f = first-none (badByte r) 26 f
+  bad-none f = first-none (badByte r) (held (editionOf r)) f
 
   pub place-answers : (root note number place : ℕ) → PlaceRefused r root note number place → notePlaced r root note ≡ refused number place
   unfolding notePlaced bypass
   place-answers root note _ _ (root-out l) = rw (le-leb 12 root l)
   place-answers root note _ _ (note-out l) = rw (le-leb 128 note l, or-true (leb 12 root))
-  place-answers root note _ _ (record-byte k l m f) = rw (lt-leb 12 root l, lt-leb 128 note m, bad-is k f, lt-ltb k 26 (f .within))
+  place-answers root note _ _ (record-byte k l m f) = rw (lt-leb 12 root l, lt-leb 128 note m, bad-is k f, lt-ltb k (held (editionOf r)) (f .within))
   place-answers root note _ _ (root-fixed l m f e g h) =
       rw (lt-leb 12 root l, lt-leb 128 note m, bad-none f, ne-eqb (effective (r .second) (r .table)) 0x00 g, ne-eqb (effective (r .second) (r .table)) 0x80 h, e)
 

@@ -25,7 +25,7 @@ use Rattle.layout.proofs.Editions.{held-size as held-within, held-some, size-le
 use Rattle.layout.proofs.Scans.{first-passed, first-none}
 use Rattle.layout.proofs.Heads.{head-sound}
 use Rattle.layout.proofs.Same.{same-is}
-use Rattle.layout.proofs.Records.{bytes-length}
+use Rattle.layout.proofs.Records.{bytes-length, Ranged}
 use Rattle.layout.proofs.Ctabs.{CtabMore, ctab-fits}
 use Rattle.layout.proofs.Outs.{out-alike}
 use Rattle.law_rounds.specs.Rounds.{Bytes}
@@ -58,7 +58,7 @@ module _ (e : Edition) (c : List ℕ) (p n at : ℕ) (h : CtabMore e c p n at) w
   pub held-size : length own ≡ held e
   held-size = length-take-le (held e) (drop (at + 8) c) (rw length-drop (omega (arith, ctab-fits e c p n at h, held-within e)))
 
-  pub held-ranged : (k : ℕ) → k < held e → outAt e own 0 k ≡ false
+  pub held-ranged : Ranged e own
   held-ranged k l = out-alike e own c 0 (at + 8) (held e) byte k l ∙ read-ranged k (omega (arith, held-within e))
     where
       byte : (i : ℕ) → i < held e → getD own (0 + i) 0 ≡ getD c (at + 8 + i) 0
@@ -115,7 +115,7 @@ module _ (e : Edition) (c : List ℕ) (at : ℕ) (b x : List ℕ) (long : length
   held-at =
       ap (take (held e)) (written-rest c at (tagOf e) file x (four-bytes e) q ∙ append-assoc b (closing e) x) ∙ take-at b _ (held e) long
 
-  pub ctab-written : ((k : ℕ) → k < held e → outAt e b 0 k ≡ false) → (p n : ℕ) → ((i : ℕ) → i < n → ctabChannel e c p i ≡ getD b 0 0 → ⊥) → CtabMore e c p n at
+  pub ctab-written : Ranged e b → (p n : ℕ) → ((i : ℕ) → i < n → ctabChannel e c p i ≡ getD b 0 0 → ⊥) → CtabMore e c p n at
   unfolding firstOut ctabOf
   ctab-written ok p n f =
       let z = closed-length e b long in

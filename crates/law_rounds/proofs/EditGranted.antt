@@ -10,7 +10,8 @@ use Rattle.layout.specs.Group.{ctabPlace}
 use Rattle.layout.specs.declared.turn.Run.{Run}
 use Rattle.layout.specs.declared.turn.Run.the-variants.{Stopped, Ended}
 use Rattle.layout.specs.declared.record.Record.{Record}
-use Rattle.layout.specs.Records.{channelOf, fileBytes}
+use Rattle.layout.specs.Editions.{held}
+use Rattle.layout.specs.Records.{channelOf, editionOf, fileBytes}
 use Rattle.layout.specs.Answers.{refused, granted, afterRun}
 use Rattle.layout.specs.declared.answer.Standing.{Standing}
 use Rattle.layout.specs.Body.{bodyRun}
@@ -24,7 +25,7 @@ pub record EditGranted (s after : List ℕ) (g channel : ℕ) (new : Record) (x 
   pub there : g < n
   pub its : rowIn s x channel < x .records
   pub own : channelOf new ≡ channel
-  pub ranged : 26 ≤ firstEdited new
+  pub ranged : held (editionOf new) ≤ firstEdited new
   pub is : after ≡ replaced s (ctabPlace (x .edition) (x .ctabs) (rowIn s x channel) + 8) (fileBytes new)
 
 pub edit-granted : (s after : List ℕ) (g channel : ℕ) (new : Record) → edited s g channel new ≡ granted after → EditGranted s after g channel new (standing s g)
@@ -39,14 +40,14 @@ edit-granted s after g channel new e = go (bodyRun s) refl e
 
     go : (r : Run) → bodyRun s ≡ r
         → afterRun r (λ n. cond (leb n g) (refused 16 0) (cond (leb (x .records) (rowIn s x channel)) (refused 15 0) (cond (not (eqb (channelOf new) channel)) (refused 16 0)
-        (cond (ltb (firstEdited new) 26) (refused 9 (firstEdited new)) (granted bytes))))) ≡ granted after
+        (cond (ltb (firstEdited new) (held (editionOf new))) (refused 9 (firstEdited new)) (granted bytes))))) ≡ granted after
         → EditGranted s after g channel new (standing s g)
     go (Stopped number place) f q = let z : _≡_ {A = ℕ} 0 1 = cc in absurd (omega arith)
     go (Ended n) f q =
         let a = if-granted (leb n g) 16 0 _ after q in
         let b = if-granted (leb (x .records) (rowIn s x channel)) 15 0 _ after (a .1) in
         let d = if-granted (not (eqb (channelOf new) channel)) 16 0 _ after (b .1) in
-        let h = if-granted (ltb (firstEdited new) 26) 9 (firstEdited new) (granted bytes) after (d .1) in
+        let h = if-granted (ltb (firstEdited new) (held (editionOf new))) 9 (firstEdited new) (granted bytes) after (d .1) in
         record {
           n = n;
           accepted = f;

@@ -6,7 +6,7 @@ use native.Mathlib.Omega.{arith}
 use lib.ListN.{length, getD, set, length-set}
 use Rattle.layout.specs.declared.turn.Run.the-variants.{Ended}
 use Rattle.layout.specs.declared.record.Record.{Record}
-use Rattle.layout.specs.Records.{channelOf, fileBytes}
+use Rattle.layout.specs.Records.{bytesOf, channelOf, editionOf, fileBytes}
 use Rattle.layout.specs.Answers.{granted}
 use Rattle.layout.specs.Group.{ctabPlace, Group}
 use Rattle.layout.specs.Body.{groupPlace, bodyRun, noGroup, groupNo}
@@ -41,7 +41,7 @@ set-allowed gs k g a ok e small =
 -- ---- the body after
 
 module _ (s : List ℕ) (n g channel : ℕ) (b : Bytes s) (h : Accepted s n) (l : g < n) (p : EditPlaced s n g channel)
-    (new : Record) (w : Whole new) (same : channelOf new ≡ channel) (r : Ranged new) where
+    (new : Record) (w : Whole new) (same : channelOf new ≡ channel) (r : Ranged (editionOf new) (bytesOf new)) where
   -- the number of the record
   abbrev row : ℕ
   row = rowIn s (standing s g) channel

@@ -7,7 +7,8 @@ use lib.ListN.{length, getD, take, set, length-append, length-set}
 use lib.Seq.{length-take-le}
 use Rattle.layout.specs.Bytes.{CSEG, Sdec, Ctab, chunk}
 use Rattle.layout.specs.declared.record.Record.{Record}
-use Rattle.layout.specs.Records.{bytesOf, blank, channelOf, firstBad, fileBytes}
+use Rattle.layout.specs.Editions.{held}
+use Rattle.layout.specs.Records.{bytesOf, blank, channelOf, editionOf, firstBad, fileBytes}
 use Rattle.layout.specs.Group.{Group}
 use Rattle.layout.specs.Write.{ctabBytes, cnttBytes, payloadBytes, groupBytes, Whole, Allowed}
 use Rattle.layout.specs.Edit.{replaced}
@@ -28,7 +29,7 @@ pub record Edited (g : Group) (i : ℕ) (new : Record) : Type 0 where
   pub room : 8 + (8 + length (g .text) + (35 * i + 8)) + length (fileBytes new) ≤ length (groupBytes g)
   pub bytes : replaced (groupBytes g) (8 + (8 + length (g .text) + (35 * i + 8))) (fileBytes new) ≡ groupBytes (withRecord g i new)
 
-module _ (g : Group) (a : Allowed g) (i : ℕ) (l : i < length (g .records)) (new : Record) (w : Whole new) (r : Ranged new)
+module _ (g : Group) (a : Allowed g) (i : ℕ) (l : i < length (g .records)) (new : Record) (w : Whole new) (r : Ranged (editionOf new) (bytesOf new))
     (own : channelOf new ≡ channelOf (getD (g .records) i blank)) where
   -- the record that was there
   abbrev old : Record
@@ -48,7 +49,7 @@ module _ (g : Group) (a : Allowed g) (i : ℕ) (l : i < length (g .records)) (ne
 
   -- ---- it is allowed
 
-  put-good : firstBad put ≡ 26
+  put-good : firstBad put ≡ held (editionOf put)
   put-good = none-bad put (λ k u. rw put-bytes (r k u)) (second-good old (omega (arith, a .ranges i l)))
 
   edited-allowed : Allowed (withRecord g i new)
@@ -57,7 +58,7 @@ module _ (g : Group) (a : Allowed g) (i : ℕ) (l : i < length (g .records)) (ne
       record {
         text = a .text;
         whole = set-each Whole (g .records) i put blank (record { voice = w .voice; roots = w .roots; chords = w .chords }) (a .whole);
-        ranges = set-each (λ x. firstBad x ≡ 26) (g .records) i put blank put-good (a .ranges);
+        ranges = set-each (λ x. firstBad x ≡ held (editionOf x)) (g .records) i put blank put-good (a .ranges);
         apart = λ j k u v x. let z : k < length (g .records) = rw (length-set (g .records) i put) at v in
             a .apart j k u z (sym (same j (omega arith)) ∙ x ∙ same k z);
       }

@@ -13,10 +13,11 @@ use Rattle.layout.specs.Bytes.{tagged, Cntt}
 use Rattle.layout.specs.declared.turn.Turn.the-variants.{More}
 use Rattle.layout.specs.declared.turn.Run.the-variants.{Ended}
 use Rattle.layout.specs.declared.edition.Edition.the-variants.{First}
+use Rattle.layout.specs.Editions.{held}
 use Rattle.layout.specs.declared.record.Record.{Record}
 use Rattle.layout.specs.declared.record.SecondTable.{SecondTable}
 use Rattle.layout.specs.declared.record.SecondTable.the-variants.{Absent, Value}
-use Rattle.layout.specs.Records.{bytesOf, recordOf, blank, channelOf, firstBad, fileBytes}
+use Rattle.layout.specs.Records.{bytesOf, recordOf, blank, channelOf, editionOf, firstBad, fileBytes}
 use Rattle.layout.specs.Group.{ctabsOver, ctabChannel, ctabTurn, ctabsOf, cnttChannel, cnttOf, cnttTurn, cnttsOf, secondOf, recordAt}
 use Rattle.layout.specs.Write.{ctabBytes, Whole}
 use Rattle.layout.proofs.Heads.{head-sound}
@@ -37,7 +38,7 @@ use Rattle.law_rounds.proofs.CnttOrder.{follows-ordered}
 use Rattle.law_rounds.proofs.CnttRounds.{cntt-goes, cntt-written}
 
 module _ (rs : List Record) (whole : (i : ℕ) → i < length rs → Whole (getD rs i blank))
-    (good : (i : ℕ) → i < length rs → firstBad (getD rs i blank) ≡ 26)
+    (good : (i : ℕ) → i < length rs → firstBad (getD rs i blank) ≡ held (editionOf (getD rs i blank)))
     (apart : Apart (λ i. channelOf (getD rs i blank)) (length rs)) (c : List ℕ) (p : ℕ) (placed : Placed rs c p) where
   abbrev n : ℕ
   n = length rs
@@ -116,7 +117,7 @@ module _ (rs : List Record) (whole : (i : ℕ) → i < length rs → Whole (getD
 -- ---- how many there are
 
 -- "a source channel has at most one in a group, so at most 16"
-pub at-most : (rs : List Record) → ((i : ℕ) → i < length rs → firstBad (getD rs i blank) ≡ 26) → Apart (λ i. channelOf (getD rs i blank)) (length rs) → length rs ≤ 16
+pub at-most : (rs : List Record) → ((i : ℕ) → i < length rs → firstBad (getD rs i blank) ≡ held (editionOf (getD rs i blank))) → Apart (λ i. channelOf (getD rs i blank)) (length rs) → length rs ≤ 16
 at-most rs good apart = at-most-sixteen (λ i. channelOf (getD rs i blank)) (length rs) (record { low = λ i l. ranged-channel _ (ranged (getD rs i blank) (omega (arith, good i l))); apart = apart })
 
 pub at-most-cntts : (rs : List Record) → length (pairs rs) ≤ length rs

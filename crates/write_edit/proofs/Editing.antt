@@ -8,9 +8,9 @@ use borrow.Rule.Slice.PartMut.{midOf, putMid}
 use Rattle.layout.specs.declared.answer.Answered.{Answered}
 use Rattle.layout.specs.declared.record.Record.{Record}
 use Rattle.layout.specs.Answers.{refused, granted, numberOf, placeOf, valueOr, answered}
-use Rattle.layout.specs.declared.edition.Edition.the-variants.{First}
+use Rattle.layout.specs.Editions.{size, held}
 use Rattle.layout.specs.Ranges.{firstOut}
-use Rattle.layout.specs.Records.{bytesOf, channelOf, fileBytes}
+use Rattle.layout.specs.Records.{bytesOf, channelOf, editionOf, fileBytes}
 use Rattle.layout.specs.Asked.{channelFound}
 use Rattle.layout.specs.Edit.{replaced, firstEdited, edited}
 use Rattle.layout.specs.Promises.{RecordEdited}
@@ -31,20 +31,20 @@ module _ (s : List ℕ) (at channel : ℕ) (r : Record) where
   unfolding editedAt
   at-other a q h = at-refused 16 0 a q (rw (ne-eqb (channelOf r) channel h))
 
-  module _ (h : channelOf r ≡ channel) (b : List ℕ) (e : b ≡ bytesOf r) (k : ℕ) (f : k ≡ firstOut First b 0 26) where
+  module _ (h : channelOf r ≡ channel) (b : List ℕ) (e : b ≡ bytesOf r) (k : ℕ) (f : k ≡ firstOut (editionOf r) b 0 (held (editionOf r))) where
     out-is : firstEdited r ≡ k
     unfolding firstEdited
-    out-is = sym (f ∙ ap (λ (x : List ℕ). firstOut First x 0 26) e)
+    out-is = sym (f ∙ ap (λ (x : List ℕ). firstOut (editionOf r) x 0 (held (editionOf r))) e)
 
-    pub at-out : (a : Answered) → a ≡ told 9 k → k < 26 → EditedAt s at channel r a s
+    pub at-out : (a : Answered) → a ≡ told 9 k → k < held (editionOf r) → EditedAt s at channel r a s
     unfolding editedAt
-    at-out a q l = at-refused 9 k a q (rw (eq-eqb (channelOf r) channel h, out-is, lt-ltb k 26 l))
+    at-out a q l = at-refused 9 k a q (rw (eq-eqb (channelOf r) channel h, out-is, lt-ltb k (held (editionOf r)) l))
 
-    pub at-put : (a : Answered) (ys : List ℕ) → a ≡ told 0 0 → 26 ≤ k → at ≤ length s → ys ≡ fileBytes r ++ drop 27 (midOf at (length s - at) s) → EditedAt s at channel r a (putMid at (length s - at) s ys)
+    pub at-put : (a : Answered) (ys : List ℕ) → a ≡ told 0 0 → held (editionOf r) ≤ k → at ≤ length s → ys ≡ fileBytes r ++ drop (size (editionOf r)) (midOf at (length s - at) s) → EditedAt s at channel r a (putMid at (length s - at) s ys)
     unfolding editedAt answered numberOf placeOf valueOr fileBytes bytesOf
     at-put a ys q l w y =
-        let z : editedAt s at channel r ≡ granted (replaced s at (fileBytes r)) = rw (eq-eqb (channelOf r) channel h, out-is, le-ltb k 26 l) in
-        record { answer = q ∙ rw z; body = tail-replaced s (fileBytes r) ys at 27 w refl y ∙ rw z }
+        let z : editedAt s at channel r ≡ granted (replaced s at (fileBytes r)) = rw (eq-eqb (channelOf r) channel h, out-is, le-ltb k (held (editionOf r)) l) in
+        record { answer = q ∙ rw z; body = tail-replaced s (fileBytes r) ys at (size (editionOf r)) w refl y ∙ rw z }
 
 -- ---- the record of a group and source channel
 
