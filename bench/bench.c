@@ -40,7 +40,7 @@ static uint8_t sound[32768], damaged[32768], small[32768], csegs[32768], none[32
 static size_t sound_size, small_size, sound_half, small_half;
 static uint8_t few[1048576], half_few[1048576], many[1048576], half_many[1048576];
 static size_t list[2][24579];
-static uint8_t table[40 * 28], buffer[2][2048];
+static uint8_t table[40 * CASM_ROW_SIZE], buffer[2][2048];
 static casm_row rows[4096];
 static size_t sections = 2000;
 
@@ -69,8 +69,12 @@ static void prepare(void)
     for (size_t i = 0; i < sizeof csegs; i++) csegs[i] = (uint8_t)"CSEG"[i % 4], none[i] = (uint8_t)any(256);
     for (size_t i = 0; i + 3 < sizeof none; i++)
         if (memcmp(none + i, "CSEG", 4) == 0) none[i] = 0;
-    for (int i = 0; i < 16; i++) record(table + 28 * i, (uint8_t)i), table[28 * i + 26] = (uint8_t)(i % 2), table[28 * i + 27] = i % 2 ? 0x84 : 0;
-    memcpy(table + 16 * 28, table, 16 * 28), memcpy(table + 32 * 28, table, 8 * 28);
+    /* every second record has a Cntt, and of two of them the later stands first */
+    for (int i = 0; i < 16; i++) {
+        uint8_t *row = table + CASM_ROW_SIZE * i;
+        record(row + 1, (uint8_t)i), row[0] = 1, row[48] = (uint8_t)(i % 2), row[49] = i % 2 ? 0x84 : 0, row[50] = i % 2 ? (uint8_t)((i / 2 ^ 1) + 1) : 0;
+    }
+    memcpy(table + 16 * CASM_ROW_SIZE, table, 16 * CASM_ROW_SIZE), memcpy(table + 32 * CASM_ROW_SIZE, table, 8 * CASM_ROW_SIZE);
     for (int i = 0; i < 4096; i++) record(rows[i].bytes, (uint8_t)(i % 16)), rows[i].bytes[20] = 0, rows[i].has_cntt = i % 2, rows[i].cntt = i % 2 ? 0x81 : 0;
 }
 

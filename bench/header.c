@@ -39,6 +39,7 @@ static const unsigned char style[STYLE_SIZE + 1] = "MThd\0\0\0\6\0\0\0\1\0\140MT
 static casm_row record(unsigned char channel) {
     casm_row row;
     memset(&row, 0, sizeof row);
+    row.edition = CASM_FIRST_EDITION;
     row.bytes[0] = channel;
     memcpy(row.bytes + 1, "Bass    ", 8);
     row.bytes[9] = 8;
@@ -52,10 +53,11 @@ static casm_row record(unsigned char channel) {
     return row;
 }
 
-static casm_row with_cntt(unsigned char channel, unsigned char cntt) {
+static casm_row with_cntt(unsigned char channel, unsigned char cntt, unsigned char position) {
     casm_row row = record(channel);
     row.has_cntt = 1;
     row.cntt = cntt;
+    row.position = position;
     return row;
 }
 
@@ -66,7 +68,7 @@ static unsigned char body[CASM_MAX_GROUP_SIZE];
 
 static void prepare(void) {
     three[0] = record(3);
-    three[1] = with_cntt(0, 0x81);
+    three[1] = with_cntt(0, 0x81, 1);
     three[2] = record(7);
     memset(body, 0xEE, sizeof body);
     casm_length length = casm_write(bytes("Main A"), 6, (const unsigned char *)three, sizeof three, 3, body, sizeof body);
@@ -173,7 +175,7 @@ static void test_place(void) {
     row.bytes[24] = 200;
     note = casm_place(row, 0, 60);
     test("place: a byte out of range", note.number == CASM_OUT_OF_RANGE && note.place == 24);
-    note = casm_place(with_cntt(0, 0x7F), 0, 60);
+    note = casm_place(with_cntt(0, 0x7F, 1), 0, 60);
     test("place: a bad Cntt counts as byte 21", note.number == CASM_OUT_OF_RANGE && note.place == 21);
     row = record(0);
     row.bytes[20] = 1;
@@ -205,7 +207,7 @@ static void test_edit(void) {
 }
 
 static void test_field(void) {
-    casm_row row = with_cntt(0, 0x81);
+    casm_row row = with_cntt(0, 0x81, 9);
     casm_edited edited = casm_field(row, 24, 100);
     test("field: set", edited.number == CASM_ACCEPTED && edited.place == 0 && edited.held.bytes[24] == 100);
     edited.held.bytes[24] = row.bytes[24];
@@ -217,6 +219,11 @@ static void test_field(void) {
     test("field: no such byte", edited.number == CASM_BAD_NUMBER && edited.place == 0 && memcmp(&edited.held, &row, sizeof row) == 0);
     row.has_cntt = 7;
     test("field: has_cntt comes back as 1", casm_field(row, 24, 100).held.has_cntt == 1);
+    row.edition = 2;
+    row.bytes[CASM_FIRST_BYTES] = row.bytes[46] = 0xFF;
+    edited = casm_field(row, 24, 100);
+    test("field: the edition comes back as the first", edited.number == CASM_ACCEPTED && edited.held.edition == CASM_FIRST_EDITION);
+    test("field: and the bytes that it does not use as 0", edited.held.bytes[CASM_FIRST_BYTES] == 0 && edited.held.bytes[46] == 0);
 }
 
 static void test_write(void) {
@@ -231,6 +238,39 @@ static void test_write(void) {
     length = casm_write(bytes("Main A"), 6, flat, sizeof three, 3, out, BODY_SIZE - 1);
     test("write: a byte too little room", length.number == CASM_NO_ROOM && length.place == 0 && length.length == 0);
     test("write: refused, the buffer is as it was", memcmp(out, before, sizeof out) == 0);
+}
+
+/* Cntts stand by their positions; 18 comes after each record's 9 and 10 and before 14. */
+static void test_positions(void) {
+    unsigned char out[CASM_MAX_GROUP_SIZE];
+    casm_row rows[3], back[3];
+    rows[0] = with_cntt(9, 0x81, 2);
+    rows[1] = record(5);
+    rows[2] = with_cntt(0, 0x84, 1);
+    casm_length length = casm_write_rows(bytes("Main A"), 6, rows, 3, out, sizeof out);
+    test("positions: written", length.number == CASM_ACCEPTED && length.length == M_SIZE + 3 * 35 + 2 * 10);
+    test("positions: the first Cntt", memcmp(out + M_SIZE + 3 * 35, "Cntt\0\0\0\2\0\x84", 10) == 0);
+    test("positions: the second", memcmp(out + M_SIZE + 3 * 35 + 10, "Cntt\0\0\0\2\x09\x81", 10) == 0);
+    casm_count count = casm_read_rows(out, length.length, 0, back, 3);
+    test("positions: read back", count.count == 3 && memcmp(back, rows, sizeof rows) == 0);
+    rows[2].position = 3;
+    length = casm_write_rows(bytes("Main A"), 6, rows, 3, out, 0);
+    test("positions: a gap, before the room", length.number == CASM_BAD_POSITIONS && length.place == 0 && length.length == 0);
+    rows[2].position = 2;
+    test("positions: one twice", casm_write_rows(bytes("Main A"), 6, rows, 3, out, sizeof out).number == CASM_BAD_POSITIONS);
+    rows[2].position = 0;
+    test("positions: none for a Cntt", casm_write_rows(bytes("Main A"), 6, rows, 3, out, sizeof out).number == CASM_BAD_POSITIONS);
+    rows[2].position = 1;
+    rows[1].position = 3;
+    test("positions: one without a Cntt", casm_write_rows(bytes("Main A"), 6, rows, 3, out, sizeof out).number == CASM_BAD_POSITIONS);
+    rows[2].bytes[24] = 200;
+    length = casm_write_rows(bytes("Main A"), 6, rows, 3, out, sizeof out);
+    test("positions: a later byte out of range first", length.number == CASM_OUT_OF_RANGE && length.place == 27 * 2 + 24);
+    length = casm_write_rows(bytes("Main A"), 6, rows, 1, out, sizeof out);
+    test("positions: of the first record alone", length.number == CASM_BAD_POSITIONS);
+    rows[0].position = 1;
+    length = casm_write_rows(bytes("Main A"), 6, rows, 1, out, sizeof out);
+    test("positions: past the count not looked at", length.number == CASM_ACCEPTED && length.length == M_SIZE + 35 + 10);
 }
 
 /* More rows than a group may have are no matter of the count: the 17th record of 16 channels is refused, however many follow. */
@@ -274,7 +314,7 @@ static void test_rows(void) {
         text[i] = (unsigned char)(i % 16 == 15 ? ',' : i % 16 == 0 ? 'A' + i / 16 : '-');
     text[CASM_MAX_TEXT - 1] = '-';
     for (int i = 0; i < CASM_MAX_RECORDS; i++)
-        rows[i] = with_cntt((unsigned char)i, 0x8A);
+        rows[i] = with_cntt((unsigned char)i, 0x8A, (unsigned char)(CASM_MAX_RECORDS - i));
     casm_length length = casm_write_rows(text, CASM_MAX_TEXT, rows, CASM_MAX_RECORDS, out, sizeof out);
     test("write_rows: the largest group", length.number == CASM_ACCEPTED && length.length == CASM_MAX_GROUP_SIZE);
     casm_count count = casm_read_rows(out, sizeof out, 0, back, CASM_MAX_RECORDS);
@@ -347,6 +387,7 @@ int main(void) {
     test_edit();
     test_field();
     test_write();
+    test_positions();
     test_write_33_rows();
     test_records();
     test_rows();

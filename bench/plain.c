@@ -88,7 +88,7 @@ static struct fault read_group(const uint8_t *p, size_t n, struct group *g)
     if (text > n - 16) return FAULT(2, 8);
     if (!sound_text(p + 16, text)) return FAULT(8, 8);
     size_t at = 16 + text;
-    uint8_t home[16] = {0}, seen[16] = {0}, last = 0;
+    uint8_t home[16] = {0}, seen[16] = {0};
     size_t records = 0, seconds = 0;
     g->ctabs = at;
     for (; at != n; at += 35) {
@@ -112,8 +112,8 @@ static struct fault read_group(const uint8_t *p, size_t n, struct group *g)
         if (channel > 15) return FAULT(9, at + 8);
         if (!cntt_value(p[at + 9])) return FAULT(9, at + 9);
         if (seen[channel]) return FAULT(10, at);
-        if (home[channel] == 0 || home[channel] < last) return FAULT(11, at);
-        seen[channel] = 1, last = home[channel], seconds++;
+        if (home[channel] == 0) return FAULT(11, at);
+        seen[channel] = 1, seconds++;
     }
     g->size = n, g->text = 16, g->length = text, g->records = records, g->seconds = seconds;
     return fine;
@@ -270,30 +270,40 @@ casm_length plain_write(const uint8_t *text, size_t length, const uint8_t *table
 {
     casm_length r = {0};
     uint8_t seen[16] = {0};
-    size_t size = 16 + length;
-    if (count > bytes / 28) return r.number = 16, r;
+    const uint8_t *by_position[17] = {0};
+    size_t size = 16 + length, seconds = 0, reach = 0;
+    if (count > bytes / CASM_ROW_SIZE) return r.number = 16, r;
     if (!sound_text(text, length)) return r.number = 8, r;
     for (size_t i = 0; i < count; i++) {
-        const uint8_t *b = table + 28 * i;
+        const uint8_t *row = table + CASM_ROW_SIZE * i, *b = row + 1;
+        uint8_t has_cntt = row[48], position = row[50];
         size_t k = first_out(b, 26);
-        if (k > 21 && b[26] && !cntt_value(b[27])) k = 21;
+        if (k > 21 && has_cntt && !cntt_value(row[49])) k = 21;
         if (k < 26) return r.number = 9, r.place = 27 * i + k, r;
         if (seen[b[0]]) return r.number = 10, r.place = 27 * i, r;
-        seen[b[0]] = 1, size += b[26] ? 45 : 35;
+        seen[b[0]] = 1, size += has_cntt ? 45 : 35;
+        if (!has_cntt) {
+            if (position) reach = 17;
+        } else if (position == 0 || position > 16 || by_position[position]) {
+            reach = 17, seconds++;
+        } else {
+            by_position[position] = row, seconds++;
+            if (reach < position) reach = position;
+        }
     }
+    if (reach > seconds) return r.number = 18, r;
     if (size > room) return r.number = 14, r;
     out = put_head(out, "CSEG", size - 8);
     out = put_head(out, "Sdec", length);
     memcpy(out, text, length), out += length;
     for (size_t i = 0; i < count; i++, out += 27) {
         out = put_head(out, "Ctab", 27);
-        memcpy(out, table + 28 * i, 26), out[26] = 0;
+        memcpy(out, table + CASM_ROW_SIZE * i + 1, 26), out[26] = 0;
     }
-    for (size_t i = 0; i < count; i++)
-        if (table[28 * i + 26]) {
-            out = put_head(out, "Cntt", 2);
-            out[0] = table[28 * i], out[1] = table[28 * i + 27], out += 2;
-        }
+    for (size_t k = 1; k <= seconds; k++, out += 2) {
+        out = put_head(out, "Cntt", 2);
+        out[0] = by_position[k][1], out[1] = by_position[k][49];
+    }
     return r.length = size, r;
 }
 

@@ -113,14 +113,19 @@ static void print_bytes(const unsigned char *bytes, unsigned long length) {
     print_hex(bytes, length);
 }
 
-/* A record that came back: has_cntt is 0 or 1, and cntt is 0 where there is none. What is neither prints as no record. */
+/* A record that came back: of the first edition, the bytes that it does not use 0, has_cntt 0 or 1, and cntt 0 where there is none. What is not so prints as no record. */
 static void print_record(casm_row row) {
-    print_bytes(row.bytes, sizeof row.bytes);
-    print_char(':');
+    int sound = row.edition == CASM_FIRST_EDITION;
+    for (unsigned long i = CASM_FIRST_BYTES; i < sizeof row.bytes; i++)
+        sound = sound && row.bytes[i] == 0;
+    print_bytes(row.bytes, CASM_FIRST_BYTES);
+    print(sound ? ":" : "?");
     if (row.has_cntt == 1)
         print_hex(&row.cntt, 1);
     else
         print(row.has_cntt == 0 && row.cntt == 0 ? "-" : "?");
+    print_char(':');
+    print_digits(row.position);
 }
 
 static void print_kept(int kept) {
@@ -259,16 +264,20 @@ static int bytes(Text *line, unsigned char *end, Lent *lent) {
     return 1;
 }
 
-/* Takes a REC. Where it has a Cntt, has_cntt is anything but 0; where it has none, cntt is not looked at. */
+/* Takes a REC. Where it has a Cntt, has_cntt is anything but 0; where it has none, cntt is not looked at. Neither are the edition and the bytes that it does not use. */
 static int record(Text *line, casm_row *row) {
-    const unsigned long digits = 2 * sizeof row->bytes;
-    Text token;
+    const unsigned long digits = 2 * CASM_FIRST_BYTES;
+    Text token, cntt, place;
+    unsigned long position;
     if (!take(line, &token) || digits_of(token) != digits || length_of(token) == digits || token.at[digits] != ':')
         return 0;
-    put_pairs(token.at, row->bytes, sizeof row->bytes);
+    memset(row, OF_RECORD, sizeof *row);
+    put_pairs(token.at, row->bytes, CASM_FIRST_BYTES);
+    token.at += digits + 1;
+    if (!cut(&token, ':', &cntt) || !cut(&token, ':', &place) || !ended(&token) || !decimal(place, &position) || position > 255)
+        return 0;
+    row->position = (unsigned char)position;
     row->has_cntt = 0;
-    row->cntt = OF_RECORD;
-    Text cntt = {token.at + digits + 1, token.end};
     if (is(cntt, "-"))
         return 1;
     if (length_of(cntt) != 2 || digits_of(cntt) != 2)

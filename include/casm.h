@@ -6,14 +6,14 @@
  * showing it. A place is counted from the start of the bytes that were lent; in a record that is handed over it is the byte of the record.
  *
  *    1  not a style file                            10  a channel's second Ctab or Cntt
- *    2  a chunk is cut off                          11  a Cntt without its Ctab, or out of order
+ *    2  a chunk is cut off                          11  a Cntt without its Ctab
  *    3  a file or a body over its limit             12  more than 32 groups
  *    4  a section tag seen before                   13  a part name seen in an earlier group
  *    5  no CASM section                             14  what is lent is too small for the answer
  *    6  a tag that may not stand there              15  no such part, or no such channel in the group
  *    7  a Ctab not of 27 bytes, a Cntt not of 2     16  a number out of range
  *    8  a rule on an Sdec's text is broken          17  root fixed, and the table is not bypass
- *    9  a byte out of its range
+ *    9  a byte out of its range                     18  the positions of the Cntts are wrong
  *
  * What a caller owes, since C checks none of it: a pointer and its length name memory that is there for the whole call, that nothing
  * else writes meanwhile and, where it is lent to be written (no const), that overlaps nothing else that is lent to the same call.
@@ -28,9 +28,11 @@
 #define CASM_H
 
 /* The version of this header and of the archive that belongs to it. With the same major number nothing that stands here changes: no name,
- * no field, no size, no number, and no answer to any input. A minor number adds calls or constants. */
-#define CASM_VERSION_MAJOR 1
+ * no field, no size, no number, and no answer to any input. A minor number adds calls or constants. CASM_VERSION is both, to compare with.
+ * 2.0: Cntts are read in any order, 18 is new, and a row has an edition and a position. */
+#define CASM_VERSION_MAJOR 2
 #define CASM_VERSION_MINOR 0
+#define CASM_VERSION (1000 * CASM_VERSION_MAJOR + CASM_VERSION_MINOR)
 
 /* The numbers of refusal. */
 #define CASM_ACCEPTED 0
@@ -51,6 +53,7 @@
 #define CASM_NOT_THERE 15
 #define CASM_BAD_NUMBER 16
 #define CASM_ROOT_FIXED 17
+#define CASM_BAD_POSITIONS 18
 
 /* The limits, and what is enough for any answer. */
 #define CASM_MAX_FILE 1048576   /* bytes of a style file */
@@ -62,7 +65,9 @@
 #define CASM_MAX_NAME 16        /* bytes of a part name */
 #define CASM_MAX_LIST 24576     /* numbers of a salvage list, three an entry */
 #define CASM_MAX_STACK 4096     /* bytes of stack of a call */
-#define CASM_ROW_SIZE 28        /* bytes of a record in a flat table */
+#define CASM_ROW_SIZE 51        /* bytes of a record in a flat table */
+#define CASM_FIRST_EDITION 1    /* the edition of a row, and .. */
+#define CASM_FIRST_BYTES 26     /* .. how many of its bytes that edition uses */
 
 #ifdef __cplusplus
 extern "C" {
@@ -151,15 +156,20 @@ typedef struct {
     unsigned char note;
 } casm_note;
 
-/* A channel record: bytes 0-25 of its Ctab; `has_cntt` is 0 where it has no Cntt, and anything else where `cntt` is the Cntt's value.
- * It comes back with `has_cntt` 0 or 1, and `cntt` 0 where there is no Cntt. A flat table is an array of them. */
+/* A channel record: its edition; its bytes, of which a record of the first edition uses the first 26, bytes 0-25 of its Ctab; `has_cntt`, 0 where it
+ * has no Cntt, and anything else where `cntt` is the Cntt's value; and the Cntt's position, its number among the group's Cntts, from 1, or 0 for none.
+ * It comes back with `edition` CASM_FIRST_EDITION, the other 21 bytes 0, `has_cntt` 0 or 1, and `cntt` 0 where there is no Cntt. Of what is handed over the
+ * edition is not looked at until the second edition is read, and neither are the other 21 bytes. Only casm_write looks at the position.
+ * A flat table is an array of them. */
 typedef struct {
-    unsigned char bytes[26];
+    unsigned char edition;
+    unsigned char bytes[47];
     unsigned char has_cntt;
     unsigned char cntt;
+    unsigned char position;
 } casm_row;
 
-/* A row is its 28 bytes and nothing between them, or this does not compile. */
+/* A row is its 51 bytes and nothing between them, or this does not compile. */
 typedef char casm_row_has_its_size[sizeof(casm_row) == CASM_ROW_SIZE ? 1 : -1];
 
 /* A record after one field byte of it was set; on refusal the record as it was, to be shown on. */
@@ -208,23 +218,25 @@ casm_span casm_voice(const unsigned char *body, unsigned long body_length, unsig
 casm_note casm_place(casm_row row, unsigned char root, unsigned char note);
 
 /* Replaces the record of a group and source channel inside a body: only that Ctab's 27 bytes change. A Cntt in `row` is neither read
- * nor checked.
+ * nor checked, nor is its position.
  * Refusals: the body's; 16 where there is no such group; 15; 16 for another source channel in `row`; 9, at the byte of the record. */
 casm_answer casm_edit(unsigned char *body, unsigned long body_length, unsigned long group, unsigned char source, casm_row row);
 
-/* One byte (index 0-25) of a record set to a value, all others kept.
+/* One byte (index 0-25) of a record set to a value, all others kept, and its Cntt with its position.
  * Refusals: 16 for the index; 9 for the value, at the index. */
 casm_edited casm_field(casm_row row, unsigned long index, unsigned char value);
 
 /* Writes one group at the start of `out`, from its Sdec's text and the first `count` records of a flat table; later bytes are kept.
- * flat_length counts bytes: the table has flat_length / 28 records, however many, and bytes left over are not looked at.
- * Refusals: 16 where the count is above that; 8; per record 9, 10, at 27 times its number plus the byte; 14. */
+ * The Cntts stand by their positions.
+ * flat_length counts bytes: the table has flat_length / 51 records, however many, and bytes left over are not looked at.
+ * Refusals: 16 where the count is above that; 8; per record 9, 10, at 27 times its number plus the byte; 18 unless each of these records
+ * without a Cntt has position 0 and the others have 1 to their number, each once; 14. */
 casm_length casm_write(
     const unsigned char *text, unsigned long text_length, const unsigned char *flat, unsigned long flat_length, unsigned long count, unsigned char *out,
     unsigned long out_length);
 
 /* Fills a flat table with the records of a group and answers how many there are; later bytes are kept. flat_length counts bytes: there
- * is room for flat_length / 28 records, and CASM_MAX_RECORDS are enough for any group.
+ * is room for flat_length / 51 records, and CASM_MAX_RECORDS are enough for any group.
  * Refusals: the body's; 16 where there is no such group; 14. */
 casm_count casm_records(const unsigned char *body, unsigned long body_length, unsigned long group, unsigned char *flat, unsigned long flat_length);
 

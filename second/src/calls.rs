@@ -33,6 +33,7 @@ const LENT_BYTE: u8 = 0xAA;
 const LENT_RECORD: Record = Record {
     bytes: [0xEE; FIELDS],
     second_table: None,
+    position: 238,
 };
 const LENT_ENTRY: Entry = Entry {
     place: 7,
@@ -264,6 +265,9 @@ mod tests {
         assert_eq!(kept(&lent, LENT_RECORD), "changed");
         lent[2] = LENT_RECORD;
         lent[0].second_table = Some(0xEE);
+        assert_eq!(kept(&lent, LENT_RECORD), "changed");
+        lent[0] = LENT_RECORD;
+        lent[1].position = 0;
         assert_eq!(kept(&lent, LENT_RECORD), "changed");
     }
 }

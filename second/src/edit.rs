@@ -1,5 +1,6 @@
 //! Editing one record inside a body: "Only that Ctab's 27 bytes may change; a Cntt given with
-//! the new record is neither read nor checked". Order: body, 16, 15, source channel 16, 9.
+//! the new record is neither read nor checked", and of its position: "an edit doesn't read it"
+//! (document 02, §1). Order: body, 16, 15, source channel 16, 9.
 
 use crate::lookup::find_channel;
 use crate::record::{first_out_of_range, Record, FIELDS};

@@ -1,5 +1,6 @@
 //! One group in its parent. Follows "The CASM body" and "Contents: empty 6; per child header
-//! cut 2, tag 6, length past the group 2, own length 7, then 8; or 9, 10; or 9, 10, 11".
+//! cut 2, tag 6, length past the group 2, own length 7, then 8; or 9, 10; or 9, 10, 11"; and
+//! document 02, §1, for Cntts: "Accept them in any order".
 
 use crate::bytes::{header, payload, Header, CNTT, CSEG, CTAB, HEADER, SDEC};
 use crate::record::{
@@ -31,6 +32,14 @@ impl Group<'_> {
         self.ctabs
             .iter()
             .position(|ctab| ctab.record.source_channel() == channel)
+    }
+
+    /// How many Cntts have been read.
+    pub fn cntts(&self) -> usize {
+        self.ctabs
+            .iter()
+            .filter(|ctab| ctab.record.has_cntt())
+            .count()
     }
 }
 
@@ -65,7 +74,6 @@ pub fn contents(parent: &[u8], group_header: Header) -> Answer<Group<'_>> {
     };
     let within = &parent[..place + length];
     let mut stage = Stage::Start;
-    let mut last_cntt = None;
     let mut at = place + HEADER;
     while at < within.len() {
         let child = header(within, at)?;
@@ -74,7 +82,7 @@ pub fn contents(parent: &[u8], group_header: Header) -> Answer<Group<'_>> {
         match stage {
             Stage::Sdec => group.text = sdec(at, bytes)?,
             Stage::Ctab => ctab(&mut group, at, bytes)?,
-            _ => last_cntt = Some(cntt(&mut group, last_cntt, at, bytes)?),
+            _ => cntt(&mut group, at, bytes)?,
         }
         at += HEADER + bytes.len();
     }
@@ -121,14 +129,16 @@ fn ctab(group: &mut Group, tag: usize, bytes: &[u8]) -> Answer<()> {
     let mut record = Record {
         bytes: [0; FIELDS],
         second_table: None,
+        position: 0,
     };
     record.bytes.copy_from_slice(&bytes[..FIELDS]);
     group.ctabs.push(Ctab { place, record });
     Ok(())
 }
 
-/// Gives a Cntt to its record; answers the number of that record's Ctab.
-fn cntt(group: &mut Group, last: Option<usize>, tag: usize, bytes: &[u8]) -> Answer<usize> {
+/// Gives a Cntt and its position to its record. "11 now means only "no Ctab"", and 10 and 11
+/// cannot meet: a channel whose first Cntt was accepted has a Ctab.
+fn cntt(group: &mut Group, tag: usize, bytes: &[u8]) -> Answer<()> {
     if bytes.len() != CNTT_BYTES {
         return refuse(7, tag);
     }
@@ -138,15 +148,16 @@ fn cntt(group: &mut Group, last: Option<usize>, tag: usize, bytes: &[u8]) -> Ans
     if !second_table_sound(bytes[1]) {
         return refuse(9, tag + HEADER + 1);
     }
-    let Some(number) = group.ctab_of(bytes[0]) else {
-        return refuse(11, tag);
-    };
-    if group.ctabs[number].record.second_table.is_some() {
+    let number = group.ctab_of(bytes[0]);
+    if number.is_some_and(|number| group.ctabs[number].record.has_cntt()) {
         return refuse(10, tag);
     }
-    if last.is_some_and(|last| number < last) {
+    let Some(number) = number else {
         return refuse(11, tag);
-    }
-    group.ctabs[number].record.second_table = Some(bytes[1]);
-    Ok(number)
+    };
+    let position = group.cntts() as u8 + 1;
+    let record = &mut group.ctabs[number].record;
+    record.second_table = Some(bytes[1]);
+    record.position = position;
+    Ok(())
 }

@@ -3,7 +3,6 @@
 
 use crate::body::{group_of_number, number_of_part, read_body};
 use crate::bytes::HEADER;
-use crate::group::Ctab;
 use crate::record::{CNTT_BYTES, CTAB_BYTES};
 use crate::refusal::{refuse, Answer};
 
@@ -31,8 +30,7 @@ pub struct Stand {
 pub fn find_group(body: &[u8], number: u32) -> Answer<Stand> {
     let groups = read_body(body)?;
     let group = group_of_number(&groups, number)?;
-    let has_cntt = |ctab: &&Ctab| ctab.record.second_table.is_some();
-    let cntts = group.ctabs.iter().filter(has_cntt).count();
+    let cntts = group.cntts();
     let end = group.place + group.length;
     let cntts_place = end - cntts * (HEADER + CNTT_BYTES);
     let ctabs_place = cntts_place - group.ctabs.len() * (HEADER + CTAB_BYTES);

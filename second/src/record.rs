@@ -1,5 +1,6 @@
-//! The channel record: bytes 0-25 of a Ctab and its Cntt. Follows "The ranges of the 27
-//! bytes stand in one table", which the reader, the writer, the screen and placement share.
+//! The channel record: bytes 0-25 of a Ctab, its Cntt and that Cntt's position. Follows "The
+//! ranges of the 27 bytes stand in one table", which the reader, the writer, the screen and
+//! placement share, and document 02, §1: "each record must now also carry its Cntt's position".
 
 /// Bytes of a Ctab and of a Cntt in a body.
 pub const CTAB_BYTES: usize = 27;
@@ -44,16 +45,22 @@ pub const RANGES: [(u8, u8); CTAB_BYTES] = [
 pub const SOURCE_CHANNEL: usize = 0;
 pub const TABLE: usize = 21;
 
-/// One channel record in memory; the second table is absent or the value of its Cntt.
+/// One channel record in memory; the second table is absent or the value of its Cntt, the
+/// position is the number of its Cntt among those of the group, from 1, "0 for none".
 #[derive(Clone, Copy, Debug, PartialEq, Eq)]
 pub struct Record {
     pub bytes: [u8; FIELDS],
     pub second_table: Option<u8>,
+    pub position: u8,
 }
 
 impl Record {
     pub fn source_channel(&self) -> u8 {
         self.bytes[SOURCE_CHANNEL]
+    }
+
+    pub fn has_cntt(&self) -> bool {
+        self.second_table.is_some()
     }
 
     pub fn root_mask(&self) -> &[u8] {

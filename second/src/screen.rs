@@ -1,5 +1,6 @@
 //! The editing screen: "sets one field byte of it per key press: byte index 0-25 and a value,
-//! all other fields kept". Order: "Screen: 16, then 9 for the set value alone".
+//! all other fields kept", the Cntt and its position too. Order: "Screen: 16, then 9 for the
+//! set value alone".
 
 use crate::record::{in_range, Record, FIELDS};
 use crate::refusal::{refuse, Answer};

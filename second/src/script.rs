@@ -2,6 +2,7 @@
 //! `calls` states them. A token that breaks the grammar is none.
 
 use crate::record::{Record, FIELDS};
+use std::fmt::Write;
 
 /// A longer line is `bad`, whatever it holds.
 pub const LINE_LIMIT: usize = 2_200_000;
@@ -91,22 +92,22 @@ pub fn bytes(token: &[u8]) -> Option<Vec<u8>> {
     Some(held)
 }
 
-/// REC: 52 hex digits, `:`, then the Cntt value as two hex digits or `-`.
+/// REC: 52 hex digits, `:`, the Cntt value as two hex digits or `-`, `:`, then the Cntt's
+/// position, "a byte in decimal".
 pub fn record(token: &[u8]) -> Option<Record> {
-    const DIGITS: usize = 2 * FIELDS;
-    if token.len() < DIGITS + 2 || token[DIGITS] != b':' {
+    let parts: Vec<&[u8]> = token.split(|&byte| byte == b':').collect();
+    let &[digits, cntt, position] = parts.as_slice() else {
         return None;
-    }
-    let cntt = &token[DIGITS + 1..];
+    };
     let second_table = match cntt {
         b"-" => None,
         _ if cntt.len() == 2 => Some(pairs(cntt)?[0]),
         _ => return None,
     };
-    let bytes = pairs(&token[..DIGITS])?.try_into().ok()?;
     Some(Record {
-        bytes,
+        bytes: pairs(digits)?.try_into().ok()?,
         second_table,
+        position: byte(position)?,
     })
 }
 
@@ -122,13 +123,14 @@ pub fn show_bytes(bytes: &[u8]) -> String {
 
 /// A record as REC.
 pub fn show_record(record: &Record) -> String {
-    let mut text = String::with_capacity(2 * FIELDS + 3);
+    let mut text = String::with_capacity(2 * FIELDS + 7);
     push_hex(&mut text, &record.bytes);
     text.push(':');
     match record.second_table {
         Some(value) => push_hex(&mut text, &[value]),
         None => text.push('-'),
     }
+    let _ = write!(text, ":{}", record.position);
     text
 }
 

@@ -5,6 +5,7 @@ mod common;
 
 use common::{m, plain_record};
 use second::calls::{answer, calls};
+use second::record::Record;
 use second::script::{bytes, number, record, show_bytes, show_record};
 
 fn is(line: &str, expected: &str) {
@@ -91,30 +92,93 @@ fn forms_of_numbers() {
 fn forms_of_records() {
     let mut plain = plain_record();
     let shown = show_record(&plain);
-    assert_eq!(shown.len(), 54);
+    assert_eq!(shown.len(), 56);
+    assert!(shown.ends_with(":-:0"));
     assert_eq!(record(shown.as_bytes()), Some(plain));
     plain.second_table = Some(0x8A);
+    plain.position = 255;
     let with_cntt = show_record(&plain);
-    assert!(with_cntt.ends_with(":8a"));
+    assert!(with_cntt.ends_with(":8a:255"));
     assert_eq!(record(with_cntt.as_bytes()), Some(plain));
     let digits = &shown[..52];
     for bad in [
         String::new(),
         "-".to_string(),
+        ":-:0".to_string(),
         digits.to_string(),
-        format!("{digits}:"),
-        format!("{digits}:8"),
-        format!("{digits}:8A"),
-        format!("{digits}:8a0"),
-        format!("{digits}:-0"),
-        format!("{digits}:84:2"),
-        format!("{digits}:-:0"),
         format!("{digits}--"),
-        format!("{}:-", &digits[2..]),
-        format!("{digits}00:-"),
-        format!("{}g:-", &digits[1..]),
+        format!("{}:-:0", &digits[2..]),
+        format!("{digits}00:-:0"),
+        format!("{}g:-:0", &digits[1..]),
     ] {
         assert_eq!(record(bad.as_bytes()), None, "{bad}");
+    }
+    for bad in BAD_RECORD_ENDS {
+        let token = format!("{digits}:{bad}");
+        assert_eq!(record(token.as_bytes()), None, "{bad}");
+        is(&format!("screen {token} 0 0"), "bad");
+    }
+}
+
+/// What may not stand behind the 52 digits and their `:`; the first two are the old form.
+const BAD_RECORD_ENDS: [&str; 30] = [
+    "-",
+    "84",
+    "",
+    "8",
+    "8A",
+    "8a0",
+    "-0",
+    ":",
+    "-:",
+    "84:",
+    ":0",
+    "8:0",
+    "8A:0",
+    "8a0:0",
+    "--:0",
+    "-:-",
+    "84:-1",
+    "84:+1",
+    "84: 1",
+    "84:x",
+    "84:1x",
+    "84:0x1",
+    "84:ff",
+    "84:1.0",
+    "84:256",
+    "84:1000",
+    "84:4294967297",
+    "84:1:",
+    "84:1:1",
+    "0:-",
+];
+
+#[test]
+fn forms_of_positions() {
+    let digits = &show_record(&plain_record())[..52];
+    for (end, second_table, position) in [
+        ("-:0", None, 0),
+        ("84:2", Some(0x84), 2),
+        ("84:0", Some(0x84), 0),
+        ("-:16", None, 16),
+        ("ff:255", Some(0xFF), 255),
+        ("00:007", Some(0), 7),
+        ("-:000000000000000000000000000000238", None, 238),
+    ] {
+        let expected = Record {
+            second_table,
+            position,
+            ..plain_record()
+        };
+        let token = format!("{digits}:{end}");
+        assert_eq!(record(token.as_bytes()), Some(expected), "{end}");
+        let kept = show_record(&expected);
+        is(
+            &format!("screen {token} 26 0"),
+            &format!("refused 16 0 {kept}"),
+        );
+        is(&format!("screen {token} 0 3"), &format!("ok {kept}"));
     }
 }
 
@@ -265,6 +329,31 @@ fn one_answer_of_each_verb() {
         &format!("ok 1 4d61696e2041 {rec} kept"),
     );
     is(&format!("group {hex} 0 0"), "refused 14 0 kept");
+    let shuffled = [(7, 2), (3, 1)].map(|(channel, position)| {
+        let mut record = plain_record();
+        record.bytes[0] = channel;
+        Record {
+            second_table: Some(0x84),
+            position,
+            ..record
+        }
+    });
+    let two = show_bytes(&second::write::group_bytes(b"A", &shuffled));
+    let [seven, three] = shuffled.map(|record| show_record(&record));
+    assert!(seven.ends_with(":84:2") && three.ends_with(":84:1"));
+    is(
+        &format!("group {two} 0 3"),
+        &format!("ok 2 41 {seven} {three} kept"),
+    );
+    is(
+        &format!("write 41 2 107 {seven} {three}"),
+        &format!("ok 107 {two}"),
+    );
+    is(
+        &format!("write 41 1 2 {seven} {three}"),
+        "refused 18 0 aaaa",
+    );
+    is(&format!("place {seven} 5 60"), "ok 65");
     is(&format!("voice {hex} 0 3"), "ok 5069616e6f");
     is(&format!("voice {hex} 0 16"), "refused 15 0");
     is(&format!("plays {hex} 4d61696e2041 0 0"), "ok 3");

@@ -8,12 +8,13 @@ use second::body::{read_body, read_group};
 use second::calls::answer;
 use second::edit::edit;
 use second::gen::dice::Dice;
+use second::gen::positions::shuffle;
 use second::gen::sound;
 use second::gen::Script;
 use second::place::place_note;
 use second::plays::who_plays;
 use second::record::Record;
-use second::script::{bytes, number, record, tokens};
+use second::script::{bytes, number, record, show_record, tokens};
 use second::style::find;
 use second::voice::voice_name;
 use second::write::write_group;
@@ -55,11 +56,20 @@ fn group_slices(body: &[u8]) -> Vec<&[u8]> {
 const EMPTY: Record = Record {
     bytes: [0x5A; 26],
     second_table: Some(0x5A),
+    position: 0x5A,
 };
+
+/// Whether the Cntts of these records do not stand as their Ctabs do.
+fn in_another_order(records: &[Record]) -> bool {
+    let with_cntt = records
+        .iter()
+        .filter(|record| record.second_table.is_some());
+    !with_cntt.map(|record| record.position).is_sorted()
+}
 
 #[test]
 fn reading_and_writing_back_gives_the_same_bytes() {
-    let mut seen = 0;
+    let (mut seen, mut another_order) = (0, 0);
     for body in some_bodies("body", 21, 5_000) {
         let Ok(groups) = read_body(&body) else {
             continue;
@@ -76,9 +86,164 @@ fn reading_and_writing_back_gives_the_same_bytes() {
             assert_eq!(&buffer[..slice.len()], *slice);
             assert_eq!(&buffer[slice.len()..], [0x77; 3]);
             seen += 1;
+            another_order += u32::from(in_another_order(&table[..count]));
         }
     }
     assert!(seen > 2_000, "{seen}");
+    assert!(another_order > 200, "{another_order}");
+}
+
+/// The records, the count and the answer of each `write` line whose count the table has.
+fn writes(seed: u64, count: usize) -> Vec<(Vec<Record>, Vec<String>)> {
+    answered("write", seed, count)
+        .into_iter()
+        .filter(|(_, words)| words[0] == "ok" || words[1] != "16")
+        .map(|(parts, words)| {
+            let count = number(&parts[2]).unwrap() as usize;
+            let records = parts[4..4 + count]
+                .iter()
+                .map(|part| record(part).unwrap())
+                .collect();
+            (records, words)
+        })
+        .collect()
+}
+
+#[test]
+fn writing_and_reading_back_gives_the_same_records() {
+    let (mut seen, mut another_order) = (0, 0);
+    for (records, words) in writes(41, 5_000) {
+        if words[0] != "ok" {
+            continue;
+        }
+        let length: usize = words[1].parse().unwrap();
+        let buffer = bytes(words[2].as_bytes()).unwrap();
+        let mut table = [EMPTY; 32];
+        let (count, _) = read_group(&buffer[..length], 0, &mut table).unwrap();
+        assert_eq!(table[..count], records[..]);
+        seen += 1;
+        another_order += u32::from(in_another_order(&records));
+    }
+    assert!(seen > 1_500, "{seen}");
+    assert!(another_order > 300, "{another_order}");
+}
+
+/// Whether every position that should be there is, and nothing else: counted one by one.
+fn positions_right(records: &[Record]) -> bool {
+    let of = |cntt: bool| {
+        records
+            .iter()
+            .filter(move |r| r.second_table.is_some() == cntt)
+    };
+    let most = of(true).count();
+    let once = |wanted: usize| {
+        let having = of(true).filter(|record| usize::from(record.position) == wanted);
+        having.count() == 1
+    };
+    (1..=most).all(once) && of(false).all(|record| record.position == 0)
+}
+
+/// 18 exactly where no earlier refusal is and the positions are wrong, whatever the room.
+#[test]
+fn wrong_positions_are_18_and_no_other() {
+    let mut seen = [0; 2];
+    for (records, words) in writes(42, 5_000) {
+        if words[0] == "refused" && words[1] != "14" && words[1] != "18" {
+            continue;
+        }
+        let right = positions_right(&records);
+        assert_eq!(words[0] == "refused" && words[1] == "18", !right);
+        assert!(right || words[2] == "0");
+        seen[usize::from(right)] += 1;
+    }
+    assert!(seen[0] > 400 && seen[1] > 2_000, "{seen:?}");
+}
+
+/// The groups of sound generated bodies, each alone, with its number of Cntts.
+fn sound_groups(seed: u64) -> Vec<(Vec<u8>, usize)> {
+    let mut list = Vec::new();
+    for body in some_bodies("body", seed, 5_000) {
+        if read_body(&body).is_ok() {
+            for (group, children) in groups(&body) {
+                let cntts = of_tag(&children, b"Cntt").len();
+                list.push((body[group.place..group.end()].to_vec(), cntts));
+            }
+        }
+    }
+    list
+}
+
+/// A group with its Cntts, which stand at its end, in another order.
+fn rearranged(group: &[u8], order: &[usize]) -> Vec<u8> {
+    let start = group.len() - 10 * order.len();
+    let cntts = order.iter().map(|row| &group[start + 10 * row..][..10]);
+    let mut bytes = group[..start].to_vec();
+    cntts.for_each(|cntt| bytes.extend(cntt));
+    bytes
+}
+
+/// Any rearrangement of a group's Cntts is accepted, with the same records but for positions.
+#[test]
+fn cntts_may_stand_in_any_order() {
+    let mut dice = Dice::new(43);
+    let mut seen = 0;
+    for (group, cntts) in sound_groups(43) {
+        let mut order: Vec<usize> = (0..cntts).collect();
+        shuffle(&mut dice, &mut order);
+        let other = rearranged(&group, &order);
+        let (mut before, mut after) = ([EMPTY; 16], [EMPTY; 16]);
+        let told = read_group(&group, 0, &mut before).unwrap();
+        assert_eq!(read_group(&other, 0, &mut after).unwrap(), told);
+        for (old, new) in before[..told.0].iter().zip(&after[..told.0]) {
+            let position = match old.position {
+                0 => 0,
+                _ => {
+                    let was = usize::from(old.position) - 1;
+                    order.iter().position(|&row| row == was).unwrap() as u8 + 1
+                }
+            };
+            assert_eq!(*new, Record { position, ..*old });
+        }
+        let part = told.1.split(|&byte| byte == b',').next().unwrap();
+        for record in &before[..told.0] {
+            let channel = record.bytes[0];
+            assert_eq!(
+                voice_name(&group, 0, channel),
+                voice_name(&other, 0, channel)
+            );
+            let (root, chord_type) = (channel % 12, channel + 7);
+            assert_eq!(
+                who_plays(&group, part, root, chord_type),
+                who_plays(&other, part, root, chord_type)
+            );
+        }
+        seen += u32::from(group != other);
+    }
+    assert!(seen > 300, "{seen}");
+}
+
+/// Placing and editing answer alike whatever the position, and a key press keeps it.
+#[test]
+fn only_writing_reads_positions() {
+    let mut dice = Dice::new(44);
+    for (verb, spot) in [("place", 1), ("edit", 4), ("screen", 1)] {
+        for (mut parts, words) in answered(verb, 44, 1_500) {
+            let mut given = record(&parts[spot]).unwrap();
+            given.position = dice.byte();
+            parts[spot] = show_record(&given).into_bytes();
+            let again = answer(&parts.join(&b' '));
+            let mut again: Vec<String> = again.split(' ').map(str::to_string).collect();
+            if verb == "screen" {
+                let last = again.len() - 1;
+                let shown = record(again[last].as_bytes()).unwrap();
+                assert_eq!(shown.position, given.position);
+                let old = record(words[last].as_bytes()).unwrap();
+                let position = old.position;
+                again[last] = show_record(&Record { position, ..shown });
+            }
+            assert_eq!(again, words);
+        }
+    }
 }
 
 #[test]
@@ -190,7 +355,7 @@ fn lent_memory_is_kept() {
     }
     for (parts, words) in answered("screen", 29, 2_000) {
         if words[0] == "refused" {
-            assert_eq!(parts[1], words[3].as_bytes());
+            assert_eq!(record(&parts[1]), record(words[3].as_bytes()));
         }
     }
 }
@@ -309,15 +474,16 @@ fn a_voice_name_is_a_part_of_the_body() {
     }
 }
 
-/// Placement against every octave of the value, the answer picked by the document's words.
 /// The numbers of an accepting answer; none of a refusal.
 fn numbers(words: &[String]) -> Option<Vec<usize>> {
     (words[0] == "ok").then(|| words[1..].iter().map(|w| w.parse().unwrap()).collect())
 }
 
-/// The lines of a lookup on a sound body: that body, the other tokens and the answer. On any other
-/// body it is refused.
-fn lookups(verb: &'static str, seed: u64) -> Vec<(Vec<u8>, Vec<Vec<u8>>, Vec<String>)> {
+/// A body, the other tokens of its line and the answer.
+type Asked = (Vec<u8>, Vec<Vec<u8>>, Vec<String>);
+
+/// The lines of a lookup on a sound body. On any other body it is refused.
+fn lookups(verb: &'static str, seed: u64) -> Vec<Asked> {
     let mut list = Vec::new();
     for (mut parts, words) in answered(verb, seed, 4_000) {
         let body = bytes(&parts[1]).unwrap();
@@ -410,6 +576,7 @@ fn a_part_is_a_name_of_its_group() {
     assert!(seen[0] > 300 && seen[1] > 1_500, "{seen:?}");
 }
 
+/// Placement against every octave of the value, the answer picked by the document's words.
 #[test]
 fn placement_by_brute_force() {
     let mut dice = Dice::new(35);

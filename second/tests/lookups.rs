@@ -89,6 +89,23 @@ fn where_records_stand() {
     }
 }
 
+/// Cntts by channel number beside Ctabs that are not (document 02, §1): all stands as before.
+#[test]
+fn where_things_stand_beside_cntts_in_another_order() {
+    let at = |channel, position| Record {
+        position,
+        ..record(channel, Some(0x84))
+    };
+    for positions in [[1, 2, 3], [3, 1, 2], [2, 3, 1]] {
+        let [first, second, third] = positions;
+        let body = group_bytes(b"A", &[at(15, first), at(0, second), at(9, third)]);
+        assert_eq!(of("where", &body, "0"), "ok 0 152 16 1 17 3 122 3");
+        assert_eq!(of("channel", &body, "0 15"), "ok 0 25");
+        assert_eq!(of("channel", &body, "0 9"), "ok 2 95");
+        assert_eq!(of("part", &body, "41"), "ok 0");
+    }
+}
+
 #[test]
 fn which_group_has_a_part() {
     let body = four();

@@ -45,6 +45,14 @@ fn record(channel: u8, changes: &[(usize, u8)], cntt: Option<u8>) -> Record {
     record
 }
 
+/// A record whose Cntt has a position.
+fn positioned(channel: u8, cntt: Option<u8>, position: u8) -> Record {
+    Record {
+        position,
+        ..record(channel, &[], cntt)
+    }
+}
+
 fn ctab(record: &Record) -> Vec<u8> {
     chunk(*b"Ctab", &[&record.bytes[..], &[0]].concat())
 }
@@ -268,7 +276,7 @@ fn values_of_a_cntt() {
         assert_eq!(strict(&body), expected, "{value}");
         let placed = place_note(&record(5, &[], Some(value)), 0, 60);
         assert_eq!(no(placed), if sound { (0, 0) } else { (9, 21) }, "{value}");
-        let written = write_group(b"A", &[record(5, &[], Some(value))], 1, &mut [0; 99]);
+        let written = write_group(b"A", &[positioned(5, Some(value), 1)], 1, &mut [0; 99]);
         assert_eq!(no(written), if sound { (0, 0) } else { (9, 21) }, "{value}");
     }
 }
@@ -291,9 +299,12 @@ fn records_child_by_child() {
     let first = 17 + 3 * 35;
     assert_eq!(with(&[(5, 4), (2, 4), (9, 4)]), (0, 0));
     assert_eq!(with(&[(5, 4), (9, 4)]), (0, 0));
-    assert_eq!(with(&[(2, 4), (5, 4)]), (11, first + 10));
-    assert_eq!(with(&[(9, 4), (2, 4), (5, 4)]), (11, first + 10));
+    assert_eq!(with(&[(2, 4), (5, 4)]), (0, 0));
+    assert_eq!(with(&[(9, 4), (2, 4), (5, 4)]), (0, 0));
     assert_eq!(with(&[(5, 4), (2, 4), (5, 4)]), (10, first + 20));
+    assert_eq!(with(&[(2, 4), (5, 4), (2, 4)]), (10, first + 20));
+    assert_eq!(with(&[(9, 4), (2, 4), (7, 4)]), (11, first + 20));
+    assert_eq!(with(&[(9, 4), (2, 4), (5, 5)]), (9, first + 29));
     assert_eq!(with(&[(5, 4), (5, 4)]), (10, first + 10));
     assert_eq!(with(&[(5, 4), (5, 5)]), (9, first + 19));
     assert_eq!(with(&[(7, 4), (5, 5)]), (11, first));
@@ -309,6 +320,40 @@ fn records_child_by_child() {
         strict(&group(&[sixteen, vec![one(16)]].concat())),
         (9, 25 + 16 * 35)
     );
+}
+
+/// Document 02, §1: what stood behind a Cntt out of Ctab order now shows. Ctabs 0, 5 and 9.
+#[test]
+fn behind_cntts_in_another_order() {
+    let ctabs: Vec<Vec<u8>> = [0, 5, 9].map(|c| ctab(&record(c, &[], None))).into();
+    let first = 17 + 3 * 35;
+    let with = |rest: &[Vec<u8>]| group(&[ctabs.clone(), rest.to_vec()].concat());
+    let reversed = [cntt(9, 4), cntt(5, 6), cntt(0, 0x80)];
+    let behind = |child: &[u8]| strict(&with(&[&reversed[..], &[child.to_vec()]].concat()));
+    assert_eq!(strict(&with(&reversed)), (0, 0));
+    assert_eq!(
+        strict(&with(&[cntt(9, 4), cntt(5, 4), cntt(9, 4)])),
+        (10, first + 20)
+    );
+    assert_eq!(behind(b"Cntt\0\0\0"), (2, first + 30));
+    assert_eq!(behind(b"Cntt\0\0\0\x03\x05\x04"), (2, first + 30));
+    assert_eq!(behind(b"Cntt\0\0\0\x01\x05"), (7, first + 30));
+    assert_eq!(behind(b"Sdec\0\0\0\x01B"), (6, first + 30));
+    assert_eq!(behind(&ctab(&record(3, &[], None))), (6, first + 30));
+    assert_eq!(behind(&cntt(16, 4)), (9, first + 38));
+    assert_eq!(behind(&cntt(5, 5)), (9, first + 39));
+    assert_eq!(behind(&cntt(5, 4)), (10, first + 30));
+    assert_eq!(behind(&cntt(7, 4)), (11, first + 30));
+    let whole = with(&reversed);
+    let end = whole.len();
+    let then = |rest: &[u8]| strict(&[whole.clone(), rest.to_vec()].concat());
+    assert_eq!(then(b"C"), (2, end));
+    assert_eq!(then(b"XSEG\0\0\0\0"), (6, end));
+    assert_eq!(then(&named("A")), (13, end));
+    assert_eq!(then(&named("B,B")), (8, end + 8));
+    assert_eq!(strict(&[named("A"), whole.clone()].concat()), (13, 17));
+    assert_eq!(then(&[many(31), named("xx")].concat()), (12, end + 558));
+    assert_eq!(entries_of(&whole), [(0, end, 0)]);
 }
 
 #[test]
@@ -395,11 +440,15 @@ fn edits_in_order() {
     assert_eq!(no(edit(&mut body, 0, 5, &bad)), (16, 0));
     assert_eq!(no(edit(&mut body, 0, 5, &bad_here)), (9, 9));
     assert_eq!(body, asked());
-    let new = record(5, &[(8, b'y')], Some(0xFF));
-    assert_eq!(edit(&mut body, 0, 5, &new), Ok(()));
     let mut expected = asked();
     expected[25 + 8] = b'y';
-    assert_eq!(body, expected);
+    for position in [0, 1, 2, 255] {
+        let mut new = record(5, &[(8, b'y')], Some(0xFF));
+        new.position = position;
+        let mut body = asked();
+        assert_eq!(edit(&mut body, 0, 5, &new), Ok(()));
+        assert_eq!(body, expected);
+    }
 }
 
 #[test]
@@ -453,11 +502,121 @@ fn writing_in_order() {
     assert_eq!(write(b"A", &more, 17, 999), (9, 16 * 27));
 }
 
+/// The number and place of a write of these Cntts and positions, channels from 1 on, with room.
+fn written(cntts: &[(Option<u8>, u8)], count: u32, room: usize) -> (u8, usize) {
+    let table: Vec<Record> = (1..)
+        .zip(cntts)
+        .map(|(channel, &(cntt, position))| positioned(channel, cntt, position))
+        .collect();
+    let mut lent = vec![0xAA; room];
+    let answer = no(write_group(b"A", &table, count, &mut lent));
+    assert!(answer == (0, 0) || lent.iter().all(|&byte| byte == 0xAA));
+    answer
+}
+
+/// "refused unless records without a Cntt have 0 and the others 1 to their number, each once".
+#[test]
+fn positions_in_writing() {
+    const NO: Option<u8> = None;
+    const C: Option<u8> = Some(0x84);
+    let right: [&[(Option<u8>, u8)]; 9] = [
+        &[],
+        &[(NO, 0)],
+        &[(C, 1)],
+        &[(NO, 0), (C, 1), (NO, 0)],
+        &[(C, 1), (C, 2), (C, 3)],
+        &[(C, 3), (C, 2), (C, 1)],
+        &[(C, 2), (C, 3), (C, 1)],
+        &[(C, 2), (NO, 0), (C, 1)],
+        &[(NO, 0), (NO, 0), (NO, 0)],
+    ];
+    for table in right {
+        assert_eq!(written(table, table.len() as u32, 500), (0, 0), "{table:?}");
+    }
+    let wrong: [&[(Option<u8>, u8)]; 24] = [
+        &[(C, 0)],
+        &[(C, 2)],
+        &[(C, 17)],
+        &[(C, 33)],
+        &[(C, 129)],
+        &[(C, 255)],
+        &[(NO, 1)],
+        &[(NO, 255)],
+        &[(C, 1), (C, 1)],
+        &[(C, 2), (C, 2)],
+        &[(C, 1), (C, 3)],
+        &[(C, 0), (C, 1)],
+        &[(C, 1), (C, 0)],
+        &[(C, 1), (NO, 1)],
+        &[(C, 1), (NO, 2)],
+        &[(NO, 1), (C, 2)],
+        &[(NO, 0), (C, 2)],
+        &[(NO, 1), (C, 0)],
+        &[(C, 2), (C, 2), (C, 2)],
+        &[(C, 1), (C, 1), (C, 4)],
+        &[(C, 1), (C, 2), (C, 17)],
+        &[(C, 1), (C, 2), (C, 255)],
+        &[(C, 2), (C, 3), (C, 4)],
+        &[(C, 3), (C, 1), (NO, 2)],
+    ];
+    for table in wrong {
+        for room in [0, 500] {
+            let answer = written(table, table.len() as u32, room);
+            assert_eq!(answer, (18, 0), "{table:?}");
+        }
+    }
+    let table = [(C, 2), (C, 1), (C, 2), (NO, 9)];
+    assert_eq!(written(&table, 2, 500), (0, 0));
+    assert_eq!(written(&table, 1, 500), (18, 0));
+    assert_eq!(written(&table, 0, 500), (0, 0));
+    assert_eq!(written(&table, 3, 500), (18, 0));
+    assert_eq!(written(&[(C, 1), (C, 2), (NO, 1)], 2, 500), (0, 0));
+    assert_eq!(written(&[(C, 1), (C, 3), (C, 2)], 2, 500), (18, 0));
+    let sixteen: Vec<(Option<u8>, u8)> = (1..=16).rev().map(|position| (C, position)).collect();
+    let shifted: Vec<Record> = (0..16)
+        .map(|channel| positioned(channel, C, 16 - channel))
+        .collect();
+    assert_eq!(no(write_group(b"A", &shifted, 16, &mut [0; 737])), (0, 0));
+    assert_eq!(no(write_group(b"A", &shifted, 16, &mut [0; 736])), (14, 0));
+    assert_eq!(no(write_group(b"A", &shifted, 15, &mut [0; 737])), (18, 0));
+    assert_eq!(written(&sixteen, 16, 999), (9, 15 * 27));
+}
+
+/// "after each record's 9 and 10 and before 14".
+#[test]
+fn wrong_positions_among_the_refusals() {
+    let write = |text: &[u8], table: &[Record], count: u32, room: usize| {
+        no(write_group(text, table, count, &mut vec![0; room]))
+    };
+    let wrong = positioned(1, Some(4), 2);
+    let bad = Record {
+        position: 7,
+        ..record(2, &[(9, 0)], None)
+    };
+    let bad_cntt = positioned(2, Some(5), 1);
+    let again = positioned(1, Some(6), 1);
+    assert_eq!(write(b"", &[wrong], 2, 0), (16, 0));
+    assert_eq!(write(b"", &[wrong], 1, 0), (8, 0));
+    assert_eq!(write(b"A", &[wrong, bad], 2, 0), (9, 27 + 9));
+    assert_eq!(write(b"A", &[bad, wrong], 2, 0), (9, 9));
+    assert_eq!(write(b"A", &[wrong, bad_cntt], 2, 0), (9, 27 + 21));
+    assert_eq!(write(b"A", &[wrong, again], 2, 0), (10, 27));
+    assert_eq!(write(b"A", &[wrong, wrong, bad], 3, 0), (10, 27));
+    assert_eq!(write(b"A", &[wrong], 1, 0), (18, 0));
+    assert_eq!(write(b"A", &[wrong], 1, 61), (18, 0));
+    assert_eq!(write(b"A", &[wrong], 1, 62), (18, 0));
+    assert_eq!(write(b"A", &[positioned(1, Some(4), 1)], 1, 61), (14, 0));
+    assert_eq!(write(b"A", &[positioned(1, Some(4), 1)], 1, 62), (0, 0));
+    assert_eq!(write(b"A", &[wrong, bad], 1, 62), (18, 0));
+    assert_eq!(write(b"A", &[wrong, bad], 0, 17), (0, 0));
+}
+
 #[test]
 fn the_screen_judges_the_set_value_alone() {
     let broken = Record {
         bytes: [0xEE; 26],
         second_table: Some(0xEE),
+        position: 0xEE,
     };
     let mut kept = broken;
     assert_eq!(no(set_field(&mut kept, 26, 0xFF)), (16, 0));

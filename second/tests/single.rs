@@ -3,7 +3,7 @@
 
 mod common;
 
-use common::{entries_of, m, plain_record};
+use common::{at_positions, entries_of, m, plain_record};
 use second::body::{read_body, read_group};
 use second::edit::edit;
 use second::place::place_note;
@@ -28,6 +28,7 @@ fn other_record() -> Record {
             4, 11, 0x21, 1, 5, 7, 9, 8, 5,
         ],
         second_table: Some(0x80),
+        position: 1,
     }
 }
 
@@ -179,4 +180,88 @@ fn whole_records() {
     assert_eq!(edited[25..51], other_record().bytes);
     assert_eq!(edited[51..], body[51..]);
     assert_eq!(edited[..25], body[..25]);
+}
+
+/// Ctabs 9, 8 and 12 as parts stand, Cntts by channel number (document 02, §1).
+#[test]
+fn cntts_by_channel_number() {
+    let three = [other_but(9), other_but(8), other_but(12)];
+    let table = at_positions(&three, &[2, 1, 3]);
+    let mut buffer = [0xAA; 153];
+    assert_eq!(write_group(b"A", &table, 3, &mut buffer), Ok(152));
+    let cntts = b"Cntt\0\0\0\x02\x08\x80Cntt\0\0\0\x02\x09\x80Cntt\0\0\0\x02\x0C\x80";
+    assert_eq!(buffer[122..152], *cntts);
+    assert_eq!(buffer[152], 0xAA);
+    let mut back = [plain_record(); 3];
+    assert_eq!(read_group(&buffer[..152], 0, &mut back), Ok((3, &b"A"[..])));
+    assert_eq!(back[..], table[..]);
+    let in_ctab_order = at_positions(&three, &[1, 2, 3]);
+    let body = group_bytes(b"A", &in_ctab_order);
+    assert_eq!(body[..122], buffer[..122]);
+    assert_ne!(body[122..], buffer[122..152]);
+}
+
+/// Every order of three Cntts: the position is the Cntt's number, whatever its Ctab's.
+#[test]
+fn every_order_of_three_cntts() {
+    let channels = [9, 8, 12];
+    let ctabs: Vec<u8> = channels
+        .iter()
+        .flat_map(|&channel| {
+            chunk(
+                *b"Ctab",
+                &[&other_but(channel).bytes[..], &[0][..]].concat(),
+            )
+        })
+        .collect();
+    for order in [
+        [0, 1, 2],
+        [0, 2, 1],
+        [1, 0, 2],
+        [1, 2, 0],
+        [2, 0, 1],
+        [2, 1, 0],
+    ] {
+        let cntts: Vec<u8> = order
+            .iter()
+            .flat_map(|&row| chunk(*b"Cntt", &[channels[row], 0x80 + row as u8]))
+            .collect();
+        let body = chunk(
+            *b"CSEG",
+            &[chunk(*b"Sdec", b"A"), ctabs.clone(), cntts].concat(),
+        );
+        let mut table = [plain_record(); 3];
+        assert_eq!(read_group(&body, 0, &mut table), Ok((3, &b"A"[..])));
+        for (number, &row) in order.iter().enumerate() {
+            let mut expected = other_but(channels[row]);
+            expected.second_table = Some(0x80 + row as u8);
+            expected.position = number as u8 + 1;
+            assert_eq!(table[row], expected, "{order:?}");
+        }
+        let mut buffer = vec![0; body.len()];
+        assert_eq!(write_group(b"A", &table, 3, &mut buffer), Ok(body.len()));
+        assert_eq!(buffer, body);
+        assert_eq!(entries_of(&body), [(0, body.len(), 0)]);
+    }
+}
+
+/// Records without a Cntt have position 0 and take no number.
+#[test]
+fn positions_count_cntts_alone() {
+    let ctabs = [4, 7, 2, 11].map(|channel| {
+        let record = Record {
+            second_table: None,
+            ..other_but(channel)
+        };
+        chunk(*b"Ctab", &[&record.bytes[..], &[0]].concat())
+    });
+    let cntts = [chunk(*b"Cntt", &[11, 6]), chunk(*b"Cntt", &[7, 4])];
+    let sdec = chunk(*b"Sdec", b"A");
+    let body = chunk(*b"CSEG", &[sdec, ctabs.concat(), cntts.concat()].concat());
+    let mut table = [plain_record(); 5];
+    table[4].position = 77;
+    assert_eq!(read_group(&body, 0, &mut table), Ok((4, &b"A"[..])));
+    assert_eq!(table.map(|record| record.position), [0, 2, 0, 1, 77]);
+    let values = table.map(|record| record.second_table);
+    assert_eq!(values, [None, Some(4), None, Some(6), None]);
 }

@@ -16,7 +16,7 @@ use Rattle.layout.proofs.Lists.{rows-length, getD-rows}
 use Rattle.read_table.specs.declared.Reading.{Reading}
 use Rattle.read_table.specs.Reading.{toldOf, plannedRecord, ReadingPlanned}
 use Rattle.read_table.proofs.Plans.{told-answer}
-use Rattle.c_row.specs.Flat.{lentRows, rowBytes, RowsRead}
+use Rattle.c_row.specs.Flat.{rowSize, lentRows, rowBytes, RowsRead}
 use Rattle.c_row.proofs.Flats.{rows-lent}
 use Rattle.c_read.proofs.Laid.{rows-long, laid, laid-none, laid-length, laid-next}
 
@@ -24,11 +24,11 @@ use Rattle.c_read.proofs.Laid.{rows-long, laid, laid-none, laid-length,
 abbrev pub laidFrom : (ℕ → Record) → ℕ → ℕ → List ℕ → List ℕ
 laidFrom f n i old = laid (rows f 0 n) i old
 
-module _ (f : ℕ → Record) (n i : ℕ) (old out : List ℕ) (l : i < n) (h : 28 * n ≤ length old) (q : out ≡ laidFrom f n i old) where
-  pub from-next : (r : Record) (ys : List ℕ) → r ≡ f i → ys ≡ rowBytes r ++ drop 28 (midOf (28 * i) (length out - 28 * i) out) → putMid (28 * i) (length out - 28 * i) out ys ≡ laidFrom f n (i + 1) old
+module _ (f : ℕ → Record) (n i : ℕ) (old out : List ℕ) (l : i < n) (h : rowSize * n ≤ length old) (q : out ≡ laidFrom f n i old) where
+  pub from-next : (r : Record) (ys : List ℕ) → r ≡ f i → ys ≡ rowBytes r ++ drop rowSize (midOf (rowSize * i) (length out - rowSize * i) out) → putMid (rowSize * i) (length out - rowSize * i) out ys ≡ laidFrom f n (i + 1) old
   from-next r ys e w =
       laid-next (rows f 0 n) i blank old out ys (omega (arith, l, rows-length f 0 n)) (omega arith) q
-      (w ∙ ap (λ (x : Record). rowBytes x ++ drop 28 (midOf (28 * i) (length out - 28 * i) out)) (e ∙ sym (getD-rows f blank n i l)))
+      (w ∙ ap (λ (x : Record). rowBytes x ++ drop rowSize (midOf (rowSize * i) (length out - rowSize * i) out)) (e ∙ sym (getD-rows f blank n i l)))
 
   pub from-length : (ys : List ℕ) → ys ≡ laidFrom f n (i + 1) old → length ys ≡ length old
   from-length ys e = laid-length (rows f 0 n) (i + 1) old ys (omega (arith, l, rows-length f 0 n)) (omega arith) e
@@ -42,11 +42,11 @@ lent f n before (refused number place) e =
 lent f n before (granted xs) e =
     let z : length (rows f 0 n) ≡ n = rows-length f 0 n in
     let all : take n (rows f 0 n) ≡ rows f 0 n = take-all n (rows f 0 n) (omega (arith, z)) in
-    let long : 28 * n ≡ length (flatMap rowBytes (rows f 0 n)) = omega (arith, rows-long (rows f 0 n), z) in
+    let long : rowSize * n ≡ length (flatMap rowBytes (rows f 0 n)) = omega (arith, rows-long (rows f 0 n), z) in
     rw (e, all, long)
 
 module _ (body before : List ℕ) (group room : ℕ) (p : Reading) (e : room ≡ lentRows (length before)) (h : ReadingPlanned body group room p) where
-  pub count-lent : 28 * p .count ≤ length before
+  pub count-lent : rowSize * p .count ≤ length before
   count-lent = omega (arith, h .fits, rows-lent room (length before) e)
 
   pub rows-read : (r : Counted) → r ≡ toldOf p → (after : List ℕ) → after ≡ laidFrom (plannedRecord body p) (p .count) (p .count) before → RowsRead body group before r after

@@ -1,11 +1,11 @@
-// A group's records laid into a flat table, 28 bytes each. They are read one at a time: no table of them is made.
+// A group's records laid into a flat table, 51 bytes each. They are read one at a time: no table of them is made.
 ghost use mathlib.Core.Path.{_≡_};
 ghost use Prim.Native.Nat.{_≤_};
 ghost use mathlib.Core.List.{_++_};
 ghost use lib.ListN.{length, drop};
 ghost use Rattle.c_row.specs.Flat.{rowSize, rowBytes, RowsRead};
 use c_row::flat::row_count;
-use c_row::row::row_of;
+use c_row::row::row_bytes;
 use layout::answer::Counted;
 use layout::record::Record;
 use layout::size::ROW;
@@ -13,16 +13,13 @@ use read_table::counted;
 use read_table::plan_records;
 use read_table::record_at;
 
-// Writes a record's 28 bytes at the start of what is lent.
+// Writes a record's row at the start of what is lent.
 fn put_row(out: &mut [u8], r: Record)
     requires { ⌜ rowSize ≤ length (now out) ⌝ }
     ensures { λ _. ⌜ now (out .exit) ≡ rowBytes r ++ drop rowSize (now (out .entry)) ⌝ }
 {
-    let row = row_of(r);
-    let b = row.bytes;
+    let b = row_bytes(r);
     write_chunks::put::put_bytes(out, &b);
-    out[26] = row.has_cntt;
-    out[27] = row.cntt;
 }
 
 // Fills a lent flat table with the records of a group, up to their count, and answers how many there are; later bytes are kept.

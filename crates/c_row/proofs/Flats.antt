@@ -2,7 +2,7 @@
 use Prim.Native.Nat.{ℕ, _*_, _≤_}
 use native.Mathlib.Omega.{arith}
 use mathlib.Core.Path.{_≡_}
-use Rattle.c_row.specs.Flat.{lentRows}
+use Rattle.c_row.specs.Flat.{rowSize, lentRows}
 
-pub rows-lent : (n size : ℕ) → n ≡ lentRows size → 28 * n ≤ size
+pub rows-lent : (n size : ℕ) → n ≡ lentRows size → rowSize * n ≤ size
 rows-lent n size e = omega (arith, e)

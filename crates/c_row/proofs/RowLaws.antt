@@ -1,15 +1,17 @@
--- A list of known length is its elements, and a second table is there or not.
+-- A list of known length is its elements, and a second table is there or not: so a row spelled out is the record's.
 use Prim.Native.Nat.{ℕ, zero, suc}
 use mathlib.Core.Path.{_≡_, refl, sym, ap, subst, _∙_}
 use mathlib.Core.Bool.{Bool, cond}
-use mathlib.Core.List.{List, [], _∷_}
-use lib.ListN.{length, getD}
+use mathlib.Core.List.{List, [], _∷_, _++_}
+use lib.ListN.{length, getD, replicate}
 use borrow.Author.Tests.{eq-eqb, ne-eqb}
 use Rattle.layout.specs.declared.record.SecondTable.{SecondTable}
 use Rattle.layout.specs.declared.record.SecondTable.the-variants.{Absent, Value}
 use Rattle.layout.specs.declared.record.Record.{Record}
 use Rattle.layout.specs.Records.{bytesOf, recordOf}
-use Rattle.c_row.specs.Rows.{secondBy, hasOf, valueOf, rowFor}
+use Rattle.layout.proofs.Records.{bytes-length}
+use Rattle.c_row.specs.Rows.{secondBy, hasOf, valueOf, firstRow, rowFor}
+use Rattle.c_row.specs.Flat.{rowBytes}
 
 module _ {A : Type 0} (d : A) where
   -- n elements from k on
@@ -36,14 +38,21 @@ pub second-there : (has cntt : ℕ) → (has ≡ 0 → ⊥) → Value cntt ≡ s
 unfolding secondBy
 second-there has cntt h = sym (ap (λ (t : Bool). cond t Absent (Value cntt)) (ne-eqb has 0 h))
 
-pub row-absent : (r : Record) (b : List ℕ) → b ≡ bytesOf r → r .second ≡ Absent → record { bytes = b; «has_cntt» = 0; cntt = 0 } ≡ rowFor r
-unfolding rowFor hasOf valueOf
-row-absent r b e h = rw (e, h)
-
-pub row-there : (r : Record) (b : List ℕ) (v : ℕ) → b ≡ bytesOf r → r .second ≡ Value v → record { bytes = b; «has_cntt» = 1; cntt = v } ≡ rowFor r
-unfolding rowFor hasOf valueOf
-row-there r b v e h = rw (e, h)
-
 -- the record of a row's bytes and the second table that was made of the other two
-pub record-made : (b : List ℕ) (second told : SecondTable) (r : Record) → second ≡ told → r ≡ recordOf b second → r ≡ recordOf b told
-record-made b second told r e h = h ∙ ap (recordOf b) e
+pub record-made : (b : List ℕ) (second told : SecondTable) (position : ℕ) (r : Record) → second ≡ told → r ≡ recordOf b second position → r ≡ recordOf b told position
+record-made b second told position r e h = h ∙ ap (λ (t : SecondTable). recordOf b t position) e
+
+-- a record's bytes one by one, and what stands behind them
+pub bytes-spelled : (r : Record) (b rest : List ℕ) → b ≡ bytesOf r → elements 0 b 0 26 ++ rest ≡ bytesOf r ++ rest
+bytes-spelled r b rest e = ap (λ (l : List ℕ). l ++ rest) (its-elements 0 b 26 (ap length e ∙ bytes-length r) ∙ e)
+
+module _ (r : Record) (b : List ℕ) (has value : ℕ) (h : has ≡ hasOf (r .second)) (v : value ≡ valueOf (r .second)) where
+  pub row-is : b ≡ bytesOf r ++ replicate 21 0
+      → record { edition = firstRow; bytes = b; «has_cntt» = has; cntt = value; position = r .position } ≡ rowFor r
+  unfolding rowFor
+  row-is e = rw (e, h, v)
+
+  pub row-spelled : b ≡ bytesOf r → firstRow ∷ (elements 0 b 0 26 ++ (replicate 21 0 ++ (has ∷ value ∷ r .position ∷ []))) ≡ rowBytes r
+  unfolding rowBytes
+  row-spelled e =
+      ap (λ (l : List ℕ). firstRow ∷ l) (bytes-spelled r b (replicate 21 0 ++ (has ∷ value ∷ r .position ∷ [])) e) ∙ rw (h, v)

@@ -1,4 +1,4 @@
-// A flat table of records, 28 bytes each.
+// A flat table of records, 51 bytes each.
 ghost use mathlib.Core.Path.{_≡_};
 ghost use Rattle.c_row.specs.Flat.{lentRows};
 use layout::size::ROW;

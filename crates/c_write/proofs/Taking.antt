@@ -28,21 +28,21 @@ record-is : (flat : List ℕ) (i : ℕ) (r : Record) → i < lentRows (length fl
 record-is flat i r h e = e ∙ sym (getD-rows (flatRecord flat) blank (lentRows (length flat)) i h)
 
 -- row number i is what is lent
-pub row-there : (flat : List ℕ) (i : ℕ) → take (28 * i + 28 - 28 * i) (drop (28 * i) flat) ≡ take 28 (drop (28 * i) flat)
-row-there flat i = let z : 28 * i + 28 - 28 * i ≡ 28 = omega arith in rw z
+pub row-there : (flat : List ℕ) (i : ℕ) → take (51 * i + 51 - 51 * i) (drop (51 * i) flat) ≡ take 51 (drop (51 * i) flat)
+row-there flat i = let z : 51 * i + 51 - 51 * i ≡ 51 = omega arith in rw z
 
 -- .. and record number i stands in it
-stands : (flat : List ℕ) (i : ℕ) (row : List ℕ) → row ≡ take 28 (drop (28 * i) flat) → recordIn row ≡ flatRecord flat i
+stands : (flat : List ℕ) (i : ℕ) (row : List ℕ) → row ≡ take 51 (drop (51 * i) flat) → recordIn row ≡ flatRecord flat i
 unfolding flatRecord
 stands flat i row e = ap recordIn e
 
--- a row looked at as its bytes and its last two
-pub row-looked : (x : Checked) (i : ℕ) (row : List ℕ) (second : SecondTable) (y : Checked) (before after : List ℕ) → second ≡ secondBy (getD row 26 0) (getD row 27 0)
-    → (y ≡ looked x i (recordOf row second)) × (after ≡ laidAfter before x i (recordOf row second))
-    → (y ≡ looked x i (recordIn row)) × (after ≡ laidAfter before x i (recordIn row))
-row-looked x i row second y before after e q =
-    let d = row-record row second e in
-    (q .0 ∙ ap (λ (r : Record). looked x i r) d, q .1 ∙ ap (λ (r : Record). laidAfter before x i r) d)
+-- a row looked at as the bytes behind its edition and its last three
+pub row-looked : (x : Checked) (i : ℕ) (row bytes : List ℕ) (second : SecondTable) (y : Checked) (before after : List ℕ) → bytes ≡ drop 1 row → second ≡ secondBy (getD row 48 0) (getD row 49 0)
+    → (y ≡ looked before x i (recordOf bytes second (getD row 50 0))) × (after ≡ laidAfter before x i (recordOf bytes second (getD row 50 0)))
+    → (y ≡ looked before x i (recordIn row)) × (after ≡ laidAfter before x i (recordIn row))
+row-looked x i row bytes second y before after b e q =
+    let d = row-record row bytes second b e in
+    (q .0 ∙ ap (λ (r : Record). looked before x i r) d, q .1 ∙ ap (λ (r : Record). laidAfter before x i r) d)
 
 -- ---- what the first i records come to
 
@@ -69,8 +69,8 @@ module _ (text flat : List ℕ) (count : ℕ) where
     pub looking-on : i < recordsNever → Looked x i
     looking-on h = subst (λ (t : Taken). Looked (t .checked) i) (sym (l .so)) (looking text (length (tableOf flat)) count (tableOf flat) i h)
 
-    pub looking-next : (row : List ℕ) (y : Checked) (after : List ℕ) → i < n → row ≡ take 28 (drop (28 * i) flat)
-        → (y ≡ looked x i (recordIn row)) × (after ≡ laidAfter cntts x i (recordIn row)) → Looking n (i + 1) y after
+    pub looking-next : (row : List ℕ) (y : Checked) (after : List ℕ) → i < n → row ≡ take 51 (drop (51 * i) flat)
+        → (y ≡ looked cntts x i (recordIn row)) × (after ≡ laidAfter cntts x i (recordIn row)) → Looking n (i + 1) y after
     unfolding takenAt
     looking-next row y after h e q =
         let d = record-is flat i (recordIn row) (omega (arith, looking-lent)) (stands flat i row e) in
@@ -87,7 +87,7 @@ module _ (text flat : List ℕ) (count : ℕ) where
 
 module _ (flat : List ℕ) (n : ℕ) (old : List ℕ) (at : ℕ) (lent : n ≤ lentRows (length flat)) (room : at + 35 * n ≤ length old) where
   pub taking-next : (now : List ℕ) (i : ℕ) → Putting (ctabs (tableOf flat)) old at n now i → i < n
-      → (row after : List ℕ) → row ≡ take 28 (drop (28 * i) flat) → after ≡ replaced now (at + 35 * i) (ctabBytes (recordIn row)) → Putting (ctabs (tableOf flat)) old at n after (i + 1)
+      → (row after : List ℕ) → row ≡ take 51 (drop (51 * i) flat) → after ≡ replaced now (at + 35 * i) (ctabBytes (recordIn row)) → Putting (ctabs (tableOf flat)) old at n after (i + 1)
   taking-next now i p h row after e s =
       let d = record-is flat i (recordIn row) (omega (arith, lent)) (stands flat i row e) in
       ctabs-next (tableOf flat) old at n (omega (arith, table-length flat, lent)) room now i p h after (s ∙ ap (λ (r : Record). replaced now (at + 35 * i) (ctabBytes r)) d)

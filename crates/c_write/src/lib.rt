@@ -12,6 +12,10 @@ ghost use Rattle.layout.specs.Write.{ctabBytes};
 ghost use Rattle.write_plan.specs.Checking.{Looking, looked, laidAfter, planOf};
 ghost use Rattle.c_row.specs.Flat.{rowSize, lentRows, recordIn, tableOf};
 use c_row::flat::row_count;
+use c_row::row::BYTES_AT;
+use c_row::row::CNTT_AT;
+use c_row::row::HAS_AT;
+use c_row::row::POSITION_AT;
 use c_row::row::second_by;
 use layout::answer::Measured;
 use layout::edition::Edition;
@@ -31,10 +35,10 @@ use write_plan::plan_for;
 // Row number i looked at as the record that it stands for.
 fn look_at_row(x: Checked, i: usize, row: &[u8], cntts: &mut [u8; 32]) -> Checked
     requires { ⌜ (length (now row) ≡ rowSize) × Looking x i ⌝ }
-    ensures { λ y. ⌜ (y ≡ looked x i (recordIn (now (row .entry)))) × (now (cntts .exit) ≡ laidAfter (now (cntts .entry)) x i (recordIn (now (row .entry)))) ⌝ }
+    ensures { λ y. ⌜ (y ≡ looked (now (cntts .entry)) x i (recordIn (now (row .entry)))) × (now (cntts .exit) ≡ laidAfter (now (cntts .entry)) x i (recordIn (now (row .entry)))) ⌝ }
 {
-    let second = second_by(row[26], row[27]);
-    look_at_bytes(x, i, row, second, cntts)
+    let second = second_by(row[HAS_AT], row[CNTT_AT]);
+    look_at_bytes(x, i, &row[BYTES_AT..], second, row[POSITION_AT], cntts)
 }
 
 // What writing a text and the first records of a flat table comes to: each record is looked at once.
@@ -68,7 +72,7 @@ fn put_row_ctab(out: &mut [u8], at: usize, i: usize, row: &[u8])
     ensures { λ _. ⌜ now (out .exit) ≡ replaced (now (out .entry)) (ctabPlace First at i) (ctabBytes (recordIn (now (row .entry)))) ⌝ }
 {
     let mut b = [0u8; HELD];
-    put_bytes(&mut b, &row[0..HELD]);
+    put_bytes(&mut b, &row[BYTES_AT..BYTES_AT + HELD]);
     put_ctab_at(Edition::First, out, at, i, &b);
 }
 

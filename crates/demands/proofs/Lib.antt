@@ -1,6 +1,7 @@
 pub mod Marked
 pub mod Salvage
 pub mod Rounds
+pub mod Positions
 pub mod Placing
 pub mod Playing
 pub mod Refusals

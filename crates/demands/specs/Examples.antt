@@ -45,6 +45,7 @@ sample mask key low high =
       high = high;
       retrigger = 0;
       second = Absent;
+      position = 0;
     }
 
 -- the record that a note is placed by: high key 5 and these limits

@@ -10,3 +10,4 @@ pub mod LentMemory
 pub mod ForC
 pub mod ByValue
 pub mod Chords
+pub mod Positions

@@ -1,4 +1,5 @@
 -- Demand 2, the round trips: "Reading accepted bytes and writing them gives those bytes; writing an allowed group and reading it gives that group", and so of an edit and of a field.
+-- Document 02, §1: whatever the order of the Cntts, and with their positions.
 -- Its words (`Bytes`, `GroupRead`, `BodyAllowed`, `EditRead`, `WrittenBack`, `ReadBack` and the others) have a line each in the specs of `law_rounds`.
 use Prim.Native.Nat.{ℕ, _≤_}
 use mathlib.Core.Path.{_≡_}
@@ -67,7 +68,7 @@ EditReadsBack =
 -- "sets one field byte of it .. all other fields kept"
 abbrev pub FieldAlone : Type 0
 FieldAlone =
-    (r after : Record) (index value : ℕ) → fieldSet r index value ≡ granted after → (bytesOf after ≡ set (bytesOf r) index value) × (after .second ≡ r .second)
+    (r after : Record) (index value : ℕ) → fieldSet r index value ≡ granted after → (bytesOf after ≡ set (bytesOf r) index value) × ((after .second ≡ r .second) × (after .position ≡ r .position))
 
 -- ---- at the calls
 

@@ -5,11 +5,11 @@ use native.Mathlib.Omega.{arith}
 use Rattle.layout.specs.declared.record.Record.{Record}
 use Rattle.law_refusals.specs.Heads.{HeadRefused, header-cut, other-tag, length-past}
 use Rattle.law_refusals.specs.File.{FileRefused, file-over, not-style, section-cut, section-past, tag-again, no-casm, casm-over}
-use Rattle.law_refusals.specs.Contents.{ContentsRefused, sdec-head, sdec-text, of-ctab, ctab-head, ctab-size, ctab-byte, ctab-again, cntt-head, cntt-size, cntt-channel, cntt-value, cntt-again, cntt-stray, cntt-order}
+use Rattle.law_refusals.specs.Contents.{ContentsRefused, sdec-head, sdec-text, of-ctab, ctab-head, ctab-size, ctab-byte, ctab-again, cntt-head, cntt-size, cntt-channel, cntt-value, cntt-again, cntt-stray}
 use Rattle.law_refusals.specs.Body.{GroupRefused, group-head, group-empty, group-contents, BodyRefused, body-over, head-refused, too-many, group-refused, name-again}
 use Rattle.law_refusals.specs.After.{GroupAsked, of-body, no-group, RecordsAsked, of-group, no-room, PartAsked, part-of-body, no-part}
 use Rattle.law_refusals.specs.After.{PlayersAsked, players-of-body, root-over, type-over, no-players, ChannelAsked, channel-of-group, no-channel, EditAsked, edit-of-channel, other-source, new-byte}
-use Rattle.law_refusals.specs.Records.{PlaceRefused, root-out, note-out, record-byte, root-fixed, WriteRefused, count-over, text-broken, table-byte, table-again, buffer-short}
+use Rattle.law_refusals.specs.Records.{PlaceRefused, root-out, note-out, record-byte, root-fixed, WriteRefused, count-over, text-broken, table-byte, table-again, positions-wrong, buffer-short}
 use Rattle.law_refusals.specs.Records.{FieldRefused, index-out, value-out, SalvageRefused, list-over, list-short}
 
 -- a condition holds of numbers above 0 alone
@@ -43,7 +43,6 @@ contents-above c _ _ (cntt-channel n j a b d e) = omega arith
 contents-above c _ _ (cntt-value n j a b d e f) = omega arith
 contents-above c _ _ (cntt-again i n j a b d e) = omega arith
 contents-above c _ _ (cntt-stray n j a b d e) = omega arith
-contents-above c _ _ (cntt-order n j x y a b d e f g h i) = omega arith
 
 pub group-above : (p : List ℕ) → Above (GroupRefused p)
 group-above p _ _ (group-head number h) = head-above p _ _ number h
@@ -96,7 +95,8 @@ write-above text table count room _ _ (count-over a) = omega arith
 write-above text table count room _ _ (text-broken a b) = omega arith
 write-above text table count room _ _ (table-byte i k a b c d e) = omega arith
 write-above text table count room _ _ (table-again j i a b c d e f g) = omega arith
-write-above text table count room _ _ (buffer-short a b c d) = omega arith
+write-above text table count room _ _ (positions-wrong a b c d) = omega arith
+write-above text table count room _ _ (buffer-short a b c d e) = omega arith
 
 pub field-above : (index value : ℕ) → Above (FieldRefused index value)
 field-above index value _ _ (index-out a) = omega arith

@@ -1,8 +1,11 @@
 -- The calls that write, edit and list: what is told of the answer is told of the number and place that the caller has in hand.
-use Prim.Native.Nat.{ℕ}
-use mathlib.Core.Path.{ap}
+use Prim.Native.Nat.{ℕ, _≤_}
+use mathlib.Core.Path.{_≡_, ap}
+use mathlib.Core.Logic.{_↔_}
+use mathlib.Core.Bool.{true}
 use mathlib.Core.List.{List}
-use lib.ListN.{length}
+use native.Mathlib.Omega.{arith}
+use lib.ListN.{length, take}
 use Rattle.layout.specs.declared.record.Record.{Record}
 use Rattle.layout.specs.declared.answer.Answered.{Answered}
 use Rattle.layout.specs.declared.answer.Counted.{Counted}
@@ -10,13 +13,14 @@ use Rattle.layout.specs.declared.answer.Measured.{Measured}
 use Rattle.layout.specs.declared.answer.Changed.{Changed}
 use Rattle.layout.specs.Answers.{answered, countedAll, measured}
 use Rattle.layout.specs.Salvage.{salvaged}
+use Rattle.layout.specs.Sdec.{soundText}
 use Rattle.layout.specs.Write.{written}
 use Rattle.layout.specs.Edit.{edited}
 use Rattle.layout.specs.Screen.{fieldSet, changed}
 use Rattle.layout.specs.Promises.{GroupWritten, RecordEdited, FieldSet, FieldSetInPlace, Salvaged}
 use Rattle.law_refusals.specs.Given.{GivenUnder}
 use Rattle.law_refusals.specs.After.{EditAsked}
-use Rattle.law_refusals.specs.Records.{WriteRefused, FieldRefused, SalvageRefused}
+use Rattle.law_refusals.specs.Records.{RecordsBefore, PositionsRight, WriteRefused, count-over, text-broken, table-byte, table-again, positions-wrong, buffer-short, FieldRefused, SalvageRefused}
 use Rattle.law_refusals.proofs.Above.{edit-asked-above}
 use Rattle.law_refusals.proofs.Above.{write-above, field-above, salvage-above}
 use Rattle.law_refusals.proofs.Asked.{edit-asked}
@@ -33,6 +37,22 @@ write-given text table count before r after p =
     let room : ℕ = length before in
     given (WriteRefused text table count room) (write-above text table count room) (written text table count room) (write-told text table count room) (write-answers text table count room) (r .number) (r .place)
     (ap (λ (x : Measured). x .number) (p .answer)) (ap (λ (x : Measured). x .place) (p .answer))
+
+-- 18 is given of no other row
+eighteen : (text : List ℕ) (table : List Record) (count room number place : ℕ) → WriteRefused text table count room number place → number ≡ 18
+    → (count ≤ length table) × ((soundText text ≡ true) × (RecordsBefore table count × (PositionsRight (take count table) → ⊥)))
+eighteen text table count room _ _ (count-over a) e = absurd (omega arith)
+eighteen text table count room _ _ (text-broken a b) e = absurd (omega arith)
+eighteen text table count room _ _ (table-byte i k a b c d f) e = absurd (omega arith)
+eighteen text table count room _ _ (table-again j i a b c d f g h) e = absurd (omega arith)
+eighteen text table count room _ _ (positions-wrong a b c d) e = (a, (b, (c, d)))
+eighteen text table count room _ _ (buffer-short a b c d f) e = absurd (omega arith)
+
+pub positions-exactly : (text : List ℕ) (table : List Record) (count : ℕ) (before : List ℕ) (r : Measured) (after : List ℕ) → GroupWritten text table count before r after
+    → (r .number ≡ 18) ↔ ((count ≤ length table) × ((soundText text ≡ true) × (RecordsBefore table count × (PositionsRight (take count table) → ⊥))))
+positions-exactly text table count before r after p =
+    let g = write-given text table count before r after p in
+    (λ e. eighteen text table count (length before) (r .number) (r .place) (g .only (λ z. absurd (omega arith))) e, λ h. g .always 18 0 (positions-wrong (h .0) (h .1 .0) (h .1 .1 .0) (h .1 .1 .1)) .0)
 
 pub edit-given : (before : List ℕ) (g channel : ℕ) (new : Record) (r : Answered) (after : List ℕ) → RecordEdited before g channel new r after
     → GivenUnder (EditAsked before g channel new) (r .number) (r .place)

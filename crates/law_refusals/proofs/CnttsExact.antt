@@ -1,7 +1,7 @@
 -- The Cntts before go on, so the run of Cntts comes to the child that does not.
-use Prim.Native.Nat.{ℕ, zero, suc, _+_, _-_, _≤_, _<_}
+use Prim.Native.Nat.{ℕ, zero, suc, _+_, _≤_, _<_}
 use mathlib.Core.Path.{_≡_, refl}
-use mathlib.Core.Bool.{Bool, true, false, cond}
+use mathlib.Core.Bool.{true, false}
 use mathlib.Core.List.{List}
 use native.Mathlib.Omega.{arith}
 use native.Mathlib.Decide.{decLt}
@@ -12,11 +12,10 @@ use Rattle.layout.specs.declared.turn.Run.the-variants.{Stopped}
 use Rattle.layout.specs.Bytes.{word, Cntt}
 use Rattle.layout.specs.declared.edition.Edition.the-variants.{First}
 use Rattle.layout.specs.Ranges.{outOf, cnttValue}
-use Rattle.layout.specs.Group.{ctabOf, cnttChannel, cnttOf, outOfOrder, cnttFault, cnttAt, cnttTurn, cnttsOf}
+use Rattle.layout.specs.Group.{ctabOf, cnttChannel, cnttOf, cnttFault, cnttAt, cnttTurn, cnttsOf}
 use Rattle.law_refusals.specs.Heads.{HeadRefused, Headed}
 use Rattle.law_refusals.specs.Contents.{ctabTag, ctabSource, cnttTag, cnttSource, CnttInRange, CnttsBefore}
 use Rattle.law_refusals.proofs.Reached.{run-reaches, head-is, head-none}
-use Rattle.law_refusals.proofs.Ctabs.{ctab-only}
 use Rattle.layout.proofs.Seen.{cntt-seen, cntt-unseen}
 use Rattle.law_refusals.proofs.CtabsExact.{ctab-has, ctab-has-not, ctabs-within}
 
@@ -92,44 +91,17 @@ module _ (c : List ℕ) (n : ℕ) where
             le-leb n (ctabOf First c p n (cnttSource c n j)) (ctab-has-not First c p n (cnttSource c n j) f),
           )
 
-      fault-order : (home : ctabOf First c p n (cnttSource c n j) < n) (b : Bool) → outOfOrder c p n q j (cnttSource c n j) ≡ b
-          → cnttFault c p n q j (cnttSource c n j) ≡ cond b 11 0
+      fault-none : ctabOf First c p n (cnttSource c n j) < n → cnttFault c p n q j (cnttSource c n j) ≡ 0
       unfolding cnttFault
-      fault-order home b e =
-          rw (le-ltb (cnttOf c q j (cnttSource c n j)) j (cntt-has-not c q j (cnttSource c n j) own), lt-leb n (ctabOf First c p n (cnttSource c n j)) home, e)
+      fault-none home =
+          rw (le-ltb (cnttOf c q j (cnttSource c n j)) j (cntt-has-not c q j (cnttSource c n j) own), lt-leb n (ctabOf First c p n (cnttSource c n j)) home)
 
   module _ (j : ℕ) (b : CnttsBefore c n j) where
-    -- the Ctabs of a Cntt and of the one before it
-    order-so : (i x y : ℕ) → 0 < i → x < n → y < n → ctabSource First c x ≡ cnttSource c n i → ctabSource First c y ≡ cnttSource c n (i - 1) → x < y
-        → outOfOrder c p n q i (cnttSource c n i) ≡ true
-    unfolding outOfOrder
-    order-so i x y l h k e f m =
-        rw (lt-ltb 0 i l, ctab-only c n x (cnttSource c n i) (b .ctabs) h e, ctab-only c n y (cnttSource c n (i - 1)) (b .ctabs) k f, lt-ltb x y m)
-
-    order-not : (i : ℕ) → i < j → outOfOrder c p n q i (cnttSource c n i) ≡ false
-    unfolding outOfOrder
-    order-not i l = go (decLt 0 i)
-      where
-        go : Dec (0 < i) → outOfOrder c p n q i (cnttSource c n i) ≡ false
-        go (no a) = rw (le-ltb 0 i (omega arith))
-        go (yes a) =
-            let h = b .cntts i l in
-            let home = h .home in
-            let last = b .cntts (i - 1) (omega arith) .home in
-            let x = ctab-only c n (home .0) (cnttSource c n i) (b .ctabs) (home .1 .0) (home .1 .1) in
-            let y = ctab-only c n (last .0) (cnttSource c n (i - 1)) (b .ctabs) (last .1 .0) (last .1 .1) in
-            rw (lt-ltb 0 i a, x, y, le-ltb (home .0) (last .0) (h .order (last .0) (home .0) a (last .1 .0) (home .1 .0) (last .1 .1) (home .1 .1)))
-
     before-more : (i : ℕ) → i < j → cnttTurn c p n q i ≡ More
     before-more i l =
         let h = b .cntts i l in
         let home = h .home in
-        turn-more i (h .cntt) (fault-order i (h .apart) (ctab-has First c p n (cnttSource c n i) (home .0) (home .1 .0) (home .1 .1)) false (order-not i l))
-
-    pub fault-late : (x y : ℕ) → ((i : ℕ) → i < j → cnttSource c n i ≡ cnttSource c n j → ⊥) → 0 < j → x < y → y < n
-        → ctabSource First c x ≡ cnttSource c n j → ctabSource First c y ≡ cnttSource c n (j - 1) → cnttFault c p n q j (cnttSource c n j) ≡ 11
-    fault-late x y own l m k e f =
-        fault-order j own (ctab-has First c p n (cnttSource c n j) x (omega arith) e) true (order-so j x y l (omega arith) k e f m)
+        turn-more i (h .cntt) (fault-none i (h .apart) (ctab-has First c p n (cnttSource c n i) (home .0) (home .1 .0) (home .1 .1)))
 
     pub cntts-within : cnttTag c n j ≤ length c
     cntts-within = go j refl

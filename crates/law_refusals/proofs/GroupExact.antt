@@ -11,14 +11,14 @@ use Rattle.layout.specs.declared.turn.Judged.the-variants.{Unsound}
 use Rattle.layout.specs.Bytes.{word, CSEG, Sdec}
 use Rattle.layout.specs.Group.{ctabsOf, cnttsOf, afterCtabs, afterCntts, contents, payload, behindHeader, groupAt}
 use Rattle.law_refusals.specs.Heads.{HeadRefused}
-use Rattle.law_refusals.specs.Contents.{CtabsBefore, CnttsBefore, ContentsRefused, sdec-head, sdec-text, of-ctab, ctab-head, ctab-size, ctab-byte, ctab-again, cntt-head, cntt-size, cntt-channel, cntt-value, cntt-again, cntt-stray, cntt-order}
+use Rattle.law_refusals.specs.Contents.{CtabsBefore, CnttsBefore, ContentsRefused, sdec-head, sdec-text, of-ctab, ctab-head, ctab-size, ctab-byte, ctab-again, cntt-head, cntt-size, cntt-channel, cntt-value, cntt-again, cntt-stray}
 use Rattle.law_refusals.specs.Body.{GroupRefused, group-head, group-empty, group-contents}
 use Rattle.law_refusals.proofs.Above.{head-above}
 use Rattle.law_refusals.proofs.Reached.{head-is, head-none}
 use Rattle.law_refusals.proofs.TextExact.{text-not}
 use Rattle.law_refusals.proofs.CtabsExact.{ctabs-stop, ctabs-over}
 use Rattle.law_refusals.proofs.CtabsExact as ctab
-use Rattle.law_refusals.proofs.CnttsExact.{cntts-stop, fault-again, fault-stray, fault-late}
+use Rattle.law_refusals.proofs.CnttsExact.{cntts-stop, fault-again, fault-stray}
 use Rattle.law_refusals.proofs.CnttsExact as cntt
 
 -- a header's number is not 0
@@ -53,8 +53,6 @@ module _ (c : List ℕ) where
       by-cntts n j b 10 _ (cntts-stop c n j b 10 _ (cntt.turn-fault c n j w 10 (λ z. absurd (omega arith)) (fault-again c n j i l e)))
   contents-answers _ _ (cntt-stray n j b w own f) =
       by-cntts n j b 11 _ (cntts-stop c n j b 11 _ (cntt.turn-fault c n j w 11 (λ z. absurd (omega arith)) (fault-stray c n j own f)))
-  contents-answers _ _ (cntt-order n j x y b w own l m k e f) =
-      by-cntts n j b 11 _ (cntts-stop c n j b 11 _ (cntt.turn-fault c n j w 11 (λ z. absurd (omega arith)) (fault-late c n j b x y own l m k e f)))
 
 module _ (p : List ℕ) where
   pub group-answers : (number place : ℕ) → GroupRefused p number place → groupAt p ≡ Unsound number place

@@ -9,6 +9,7 @@ pub mod Shared
 pub mod Bodies
 pub mod Asked
 pub mod Records
+pub mod Positions
 pub mod Written
 pub mod Above
 pub mod Players

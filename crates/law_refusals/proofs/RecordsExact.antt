@@ -24,11 +24,12 @@ use Rattle.layout.proofs.Scans.{first-none}
 use Rattle.layout.proofs.Runs.{run-end}
 use Rattle.read_salvage.proofs.Room.{numbers-length}
 use Rattle.layout.proofs.Outs.{unruled-first}
-use Rattle.law_refusals.specs.Records.{FirstBadByte, InRange, PlaceRefused, root-out, note-out, record-byte, root-fixed, RecordsBefore, WriteRefused, count-over, text-broken, table-byte, table-again, buffer-short}
+use Rattle.law_refusals.specs.Records.{FirstBadByte, InRange, PlaceRefused, root-out, note-out, record-byte, root-fixed, RecordsBefore, WriteRefused, count-over, text-broken, table-byte, table-again, positions-wrong, buffer-short}
 use Rattle.law_refusals.specs.Records.{FieldRefused, index-out, value-out, SalvageRefused, list-over, list-short}
 use Rattle.law_refusals.proofs.Reached.{run-from, run-reaches, such-first}
 use Rattle.law_refusals.proofs.TextExact.{text-not}
 use Rattle.law_refusals.proofs.Written.{record-seen, record-unseen}
+use Rattle.law_refusals.proofs.Positions.{told-right, wrong-told}
 
 -- ---- one record in memory
 
@@ -125,11 +126,19 @@ module _ (text : List ℕ) (table : List Record) (count room : ℕ) where
         records-stop rs i (before-rs i (omega arith) b) 10 (27 * i) (omega arith)
             (turn-again rs i (rw (same-record i l) at f) j m (rw (same-record i l, same-record j (omega arith)) at e)),
       )
-  write-answers _ _ (buffer-short few sound b l) =
+  write-answers _ _ (positions-wrong few sound b f) =
       rw (
         le-ltb (length table) count few,
         sound,
         records-end rs count (before-rs count (omega arith) b) (length-take-le count table few),
+        wrong-told rs f,
+      )
+  write-answers _ _ (buffer-short few sound b right l) =
+      rw (
+        le-ltb (length table) count few,
+        sound,
+        records-end rs count (before-rs count (omega arith) b) (length-take-le count table few),
+        told-right rs right,
         lt-ltb room (length (groupBytes (groupFrom text table count))) l,
       )
 

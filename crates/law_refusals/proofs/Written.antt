@@ -14,13 +14,14 @@ use Rattle.layout.specs.declared.turn.Run.the-variants.{Ended}
 use Rattle.layout.specs.declared.record.Record.{Record}
 use Rattle.layout.specs.Records.{blank, channelOf, firstBad}
 use Rattle.layout.specs.Sdec.{soundText}
-use Rattle.layout.specs.Write.{groupBytes, recordOn, recordTurn, recordsRun, groupFrom, written}
+use Rattle.layout.specs.Write.{groupBytes, recordOn, recordTurn, recordsRun, wrongPositions, groupFrom, written}
 use Rattle.layout.proofs.Scans.{first-passed, first-stands}
 use Rattle.layout.proofs.Runs.{run-ended}
-use Rattle.law_refusals.specs.Records.{FirstBadByte, InRange, RecordsBefore, WriteRefused, count-over, text-broken, table-byte, table-again, buffer-short}
+use Rattle.law_refusals.specs.Records.{FirstBadByte, InRange, RecordsBefore, WriteRefused, count-over, text-broken, table-byte, table-again, positions-wrong, buffer-short}
 use Rattle.law_refusals.proofs.Told.{TurnTold, RunTold, AnswerTold, if-told, run-told, after-told}
 use Rattle.law_refusals.proofs.Texts.{text-told}
 use Rattle.law_refusals.proofs.Records.{bad-byte, in-range}
+use Rattle.law_refusals.proofs.Positions.{right-told, told-wrong}
 
 -- ---- the records before
 
@@ -140,6 +141,9 @@ write-told text table count room =
     let few = ltb-false (length table) count e in
     if-told (AnswerTold P) (not (soundText text)) _ _ (λ f. text-broken few (text-told text (not-true _ f))) (λ f.
     after-told P (recordsRun (take count table)) _ (records-told text table count room few (not-false _ f)) (λ n g.
+    let all = all-before text table count room few (not-false _ f) n g in
+    if-told (AnswerTold P) (wrongPositions (take count table)) _ _
+    (λ h. positions-wrong few (not-false _ f) all (told-wrong (take count table) h)) (λ h.
     if-told (AnswerTold P) (ltb room (length (groupBytes (groupFrom text table count)))) _ _
-    (λ h. buffer-short few (not-false _ f) (all-before text table count room few (not-false _ f) n g) (ltb-true _ _ h))
-    (λ h. tt))))
+    (λ k. buffer-short few (not-false _ f) all (right-told (take count table) h) (ltb-true _ _ k))
+    (λ k. tt)))))

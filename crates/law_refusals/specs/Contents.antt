@@ -1,6 +1,6 @@
 -- When the contents of a group are refused (document 01, "Numbers of refusal": "contents: .. per child header cut 2, tag 6, length past the group 2, own length 7, then 8; or 9, 10; or 9, 10, 11").
 -- Places are those of the contents c, the bytes after a group's header.
-use Prim.Native.Nat.{ℕ, _+_, _-_, _<_, _≤_}
+use Prim.Native.Nat.{ℕ, _+_, _<_, _≤_}
 use mathlib.Core.Path.{_≡_}
 use mathlib.Core.Bool.{Bool, true, false}
 use mathlib.Core.List.{List}
@@ -68,12 +68,11 @@ pub record CnttInRange (c : List ℕ) (n j : ℕ) : Type 0 where
   pub channel : outOf First 0 0 (getD c (cnttTag c n j + 8) 0) ≡ false
   pub value : cnttValue (getD c (cnttTag c n j + 9) 0) ≡ true
 
--- .. and its source channel its own, and that of a Ctab, no earlier than that of the Cntt before
+-- .. and its source channel its own, and that of a Ctab
 pub record CnttStands (c : List ℕ) (n j : ℕ) : Type 0 where
   pub cntt : CnttInRange c n j
   pub apart : (i : ℕ) → i < j → cnttSource c n i ≡ cnttSource c n j → ⊥
   pub home : (i : ℕ) × ((i < n) × (ctabSource First c i ≡ cnttSource c n j))
-  pub order : (a b : ℕ) → 0 < j → a < n → b < n → ctabSource First c a ≡ cnttSource c n (j - 1) → ctabSource First c b ≡ cnttSource c n j → a ≤ b
 
 -- a sound Sdec, then n Ctabs and no more, then j Cntts
 pub record CnttsBefore (c : List ℕ) (n j : ℕ) : Type 0 where
@@ -115,10 +114,7 @@ pub data ContentsRefused (c : List ℕ) : ℕ → ℕ → Type 0 where
       → outOf First 0 0 (getD c (cnttTag c n j + 8) 0) ≡ false → cnttValue (getD c (cnttTag c n j + 9) 0) ≡ false → ContentsRefused c outOfRange (cnttTag c n j + 9)
   -- 10: "second .. Cntt of a channel", at the later tag
   cntt-again : (i n j : ℕ) → CnttsBefore c n j → CnttInRange c n j → i < j → cnttSource c n i ≡ cnttSource c n j → ContentsRefused c channelAgain (cnttTag c n j)
-  -- 11: "Cntt without Ctab", at its tag
+  -- 11: "no Ctab" (document 02, §1), at its tag
   cntt-stray : (n j : ℕ) → CnttsBefore c n j → CnttInRange c n j → ((i : ℕ) → i < j → cnttSource c n i ≡ cnttSource c n j → ⊥)
       → ((i : ℕ) → i < n → ctabSource First c i ≡ cnttSource c n j → ⊥)
       → ContentsRefused c strayCntt (cnttTag c n j)
-  -- 11: "or out of order", at its tag: its Ctab stands before that of the Cntt before it
-  cntt-order : (n j a b : ℕ) → CnttsBefore c n j → CnttInRange c n j → ((i : ℕ) → i < j → cnttSource c n i ≡ cnttSource c n j → ⊥) → 0 < j → a < b → b < n
-      → ctabSource First c a ≡ cnttSource c n j → ctabSource First c b ≡ cnttSource c n (j - 1) → ContentsRefused c strayCntt (cnttTag c n j)

@@ -1,12 +1,13 @@
 -- When records in memory are refused: placement, writing and the screen; and the salvage list (document 01, "Numbers of refusal": "placement: 16, 9, 17. Writing: 16 .., 8, per record 9 then 10, 14.
--- Screen: 16, then 9"; "salvage: 3").
+-- Screen: 16, then 9"; "salvage: 3"; document 02, §1: 18).
 use Prim.Native.Nat.{ℕ, _+_, _*_, _<_, _≤_}
 use mathlib.Core.Path.{_≡_}
 use mathlib.Core.Bool.{true, false}
 use mathlib.Core.List.{List}
-use lib.ListN.{length, getD}
+use lib.ListN.{length, getD, take}
 use Rattle.layout.specs.declared.record.Record.{Record}
-use Rattle.layout.specs.Refusals.{overLimit, badText, outOfRange, channelAgain, noRoom, badNumber, rootFixed}
+use Rattle.layout.specs.declared.record.SecondTable.the-variants.{Absent, Value}
+use Rattle.layout.specs.Refusals.{overLimit, badText, outOfRange, channelAgain, noRoom, badNumber, rootFixed, badPositions}
 use Rattle.layout.specs.declared.edition.Edition.the-variants.{First}
 use Rattle.layout.specs.Editions.{size, held}
 use Rattle.layout.specs.Ranges.{outOf}
@@ -16,7 +17,7 @@ use Rattle.layout.specs.Body.{bodyLimit}
 use Rattle.layout.specs.Salvage.{salvage}
 use Rattle.layout.specs.Plays.{rootCount}
 use Rattle.layout.specs.Place.{noteCount, effective}
-use Rattle.layout.specs.Write.{groupBytes, groupFrom}
+use Rattle.layout.specs.Write.{cnttsIn, groupBytes, groupFrom}
 use Rattle.law_refusals.specs.Text.{TextBroken}
 use Rattle.law_refusals.specs.Contents.{FirstSuch}
 
@@ -48,6 +49,13 @@ pub record RecordsBefore (table : List Record) (n : ℕ) : Type 0 where
   pub inside : (i : ℕ) → i < n → InRange (getD table i blank)
   pub apart : (i j : ℕ) → i < j → j < n → channelOf (getD table i blank) ≡ channelOf (getD table j blank) → ⊥
 
+-- "records without a Cntt have 0 and the others 1 to their number, each once" (document 02, §1)
+pub record PositionsRight (rs : List Record) : Type 0 where
+  pub none : (i : ℕ) → i < length rs → getD rs i blank .second ≡ Absent → getD rs i blank .position ≡ 0
+  pub within : (i v : ℕ) → i < length rs → getD rs i blank .second ≡ Value v → (1 ≤ getD rs i blank .position) × (getD rs i blank .position ≤ cnttsIn rs)
+  pub once : (i j v w : ℕ) → i < j → j < length rs → getD rs i blank .second ≡ Value v → getD rs j blank .second ≡ Value w → getD rs i blank .position ≡ getD rs j blank .position → ⊥
+  pub each : (k : ℕ) → 1 ≤ k → k ≤ cnttsIn rs → (i : ℕ) × ((i < length rs) × ((v : ℕ) × ((getD rs i blank .second ≡ Value v) × (getD rs i blank .position ≡ k))))
+
 -- a text and the first records of a lent table, into a buffer of so many bytes
 pub data WriteRefused (text : List ℕ) (table : List Record) (count room : ℕ) : ℕ → ℕ → Type 0 where
   -- 16: "count out of range": "when the count exceeds the lent table", at 0
@@ -60,8 +68,10 @@ pub data WriteRefused (text : List ℕ) (table : List Record) (count room : ℕ)
   -- 10: "second Ctab .. of a channel"; "10 points at the later record's byte 0"
   table-again : (j i : ℕ) → j < i → i < count → count ≤ length table → soundText text ≡ true → RecordsBefore table i → InRange (getD table i blank)
       → channelOf (getD table j blank) ≡ channelOf (getD table i blank) → WriteRefused text table count room channelAgain (size (editionOf (getD table i blank)) * i)
+  -- 18: "positions wrong, after each record's 9 and 10 and before 14", at 0
+  positions-wrong : count ≤ length table → soundText text ≡ true → RecordsBefore table count → (PositionsRight (take count table) → ⊥) → WriteRefused text table count room badPositions 0
   -- 14: "lent room too small for the full answer", at 0
-  buffer-short : count ≤ length table → soundText text ≡ true → RecordsBefore table count → room < length (groupBytes (groupFrom text table count)) → WriteRefused text table count room noRoom 0
+  buffer-short : count ≤ length table → soundText text ≡ true → RecordsBefore table count → PositionsRight (take count table) → room < length (groupBytes (groupFrom text table count)) → WriteRefused text table count room noRoom 0
 
 -- ---- the screen
 

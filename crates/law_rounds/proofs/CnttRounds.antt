@@ -1,4 +1,4 @@
--- A Cntt read is the bytes of its pair, and a Cntt written is read (document 01, "The CASM body": Cntt).
+-- A Cntt read is the bytes of its source channel and its value, and a Cntt written is read (document 01, "The CASM body": Cntt).
 use Prim.Native.Nat.{ℕ, suc, _+_, _≤_, _<_}
 use mathlib.Core.Path.{_≡_, refl, sym, ap, ap₂, _∙_}
 use mathlib.Core.Bool.{true}
@@ -10,23 +10,19 @@ use lib.Seq.{drop-cons}
 use borrow.Author.Tests.{ne-eqb}
 use Rattle.layout.specs.Bytes.{Cntt, chunk}
 use Rattle.layout.specs.declared.turn.Turn.the-variants.{More}
+use Rattle.layout.specs.declared.record.SecondTable.the-variants.{Value}
 use Rattle.layout.specs.Ranges.{cnttValue}
-use Rattle.layout.specs.Group.{cnttAt}
+use Rattle.layout.specs.Group.{cnttFault, cnttAt}
+use Rattle.layout.specs.Write.{cnttBytes}
 use Rattle.layout.proofs.Heads.{head-sound}
 use Rattle.layout.proofs.Cntts.{CnttMore, cntt-fits, channel-in}
 use Rattle.law_rounds.specs.Rounds.{Bytes}
 use Rattle.law_rounds.proofs.Blocks.{moved}
-use Rattle.law_rounds.proofs.Chunks.{chunk-read, length-chunk, written-length, written-byte, written-head}
-use Rattle.law_rounds.proofs.Follows.{pairBytes}
-use Rattle.law_rounds.proofs.CnttOrder.{Ordered, order-written}
-
-pub length-pair : (x : ℕ × ℕ) → length (pairBytes x) ≡ 10
-unfolding pairBytes
-length-pair x = length-chunk Cntt (x .0 ∷ x .1 ∷ []) refl
+use Rattle.law_rounds.proofs.Chunks.{chunk-read, written-length, written-byte, written-head}
 
 module _ (c : List ℕ) (p n q j at : ℕ) (h : CnttMore c p n q j at) where
-  pub cntt-read : Bytes c → drop at c ≡ pairBytes (getD c (at + 8) 0, getD c (at + 9) 0) ++ drop (at + 10) c
-  unfolding pairBytes
+  pub cntt-read : Bytes c → drop at c ≡ cnttBytes (getD c (at + 8) 0) (Value (getD c (at + 9) 0)) ++ drop (at + 10) c
+  unfolding cnttBytes
   cntt-read b =
       let fits = cntt-fits c p n q j at h in
       chunk-read c at Cntt 2 b (head-sound c at Cntt (h .head) .0) (h .size) (omega arith)
@@ -47,26 +43,26 @@ module _ (c : List ℕ) (p n q j at : ℕ) (h : CnttMore c p n q j at) where
         h .size,
         channel-in (getD c (at + 8) 0) (omega (arith, h .channel)),
         h .value,
-        h .order,
+        h .fault,
       )
 
-module _ (c : List ℕ) (at channel v : ℕ) (x : List ℕ) (e : drop at c ≡ pairBytes (channel, v) ++ x) where
+module _ (c : List ℕ) (at channel v : ℕ) (x : List ℕ) (e : drop at c ≡ cnttBytes channel (Value v) ++ x) where
   chunked : drop at c ≡ chunk Cntt (channel ∷ v ∷ []) ++ x
-  unfolding pairBytes
+  unfolding cnttBytes
   chunked = e
 
-  pub pair-channel : getD c (at + 8) 0 ≡ channel
-  pair-channel = ap (λ k. getD c k 0) (sym (add-zero (at + 8))) ∙ written-byte c at Cntt (channel ∷ v ∷ []) x refl chunked 0 (omega arith)
+  pub written-channel : getD c (at + 8) 0 ≡ channel
+  written-channel = ap (λ k. getD c k 0) (sym (add-zero (at + 8))) ∙ written-byte c at Cntt (channel ∷ v ∷ []) x refl chunked 0 (omega arith)
 
-  pub pair-value : getD c (at + 9) 0 ≡ v
-  pair-value = ap (λ k. getD c k 0) (omega arith) ∙ written-byte c at Cntt (channel ∷ v ∷ []) x refl chunked 1 (omega arith)
+  pub written-value : getD c (at + 9) 0 ≡ v
+  written-value = ap (λ k. getD c k 0) (omega arith) ∙ written-byte c at Cntt (channel ∷ v ∷ []) x refl chunked 1 (omega arith)
 
-  pub cntt-written : (p n q j : ℕ) → channel < 16 → cnttValue v ≡ true → Ordered c p n q j channel → CnttMore c p n q j at
+  pub cntt-written : (p n q j : ℕ) → channel < 16 → cnttValue v ≡ true → cnttFault c p n q j (getD c (at + 8) 0) ≡ 0 → CnttMore c p n q j at
   cntt-written p n q j l t o =
       record {
         head = written-head c at Cntt (channel ∷ v ∷ []) x refl chunked (omega arith);
         size = written-length c at Cntt (channel ∷ v ∷ []) x refl chunked (omega arith);
-        channel = rw pair-channel l;
-        value = rw pair-value t;
-        order = order-written c p n q j (getD c (at + 8) 0) (rw pair-channel o);
+        channel = rw written-channel l;
+        value = rw written-value t;
+        fault = o;
       }

@@ -1,4 +1,4 @@
--- What stands in sound contents is given back by writing its records: Ctab by Ctab, then the Cntts, which follow the order of their Ctabs.
+-- What stands in sound contents is given back by writing its records: Ctab by Ctab, then the Cntts, each at the position that its record was read with.
 use Prim.Native.Nat.{ℕ, suc, _+_, _*_, _<_}
 use mathlib.Core.Path.{_≡_, refl, sym, ap, ap₂, _∙_}
 use mathlib.Core.Bool.{Bool, true, false, cond}
@@ -14,14 +14,16 @@ use Rattle.layout.specs.declared.edition.Edition.the-variants.{First}
 use Rattle.layout.specs.declared.record.Record.{Record}
 use Rattle.layout.specs.declared.record.SecondTable.the-variants.{Absent, Value}
 use Rattle.layout.specs.Records.{bytesOf, recordOf, blank, channelOf, badSecond, firstBad, fileBytes}
-use Rattle.layout.specs.Group.{ctabChannel, ctabTurn, ctabsOf, cnttPlace, cnttChannel, cnttOf, cnttTurn, cnttsOf, secondOf, recordAt, groupOf}
-use Rattle.layout.specs.Write.{ctabBytes, payloadBytes, Allowed}
+use Rattle.layout.specs.Group.{ctabChannel, ctabOf, ctabTurn, ctabsOf, cnttPlace, cnttChannel, cnttOf, cnttTurn, cnttsOf, secondOf, positionOf, recordAt, groupOf}
+use Rattle.layout.specs.Write.{ctabBytes, cnttBytes, cnttCount, cnttsIn, cnttsBytes, payloadBytes, Allowed}
 use Rattle.layout.proofs.Heads.{head-sound}
 use Rattle.layout.proofs.Ctabs.{CtabMore, turn-more}
-use Rattle.layout.proofs.Cntts.{CnttMore, cntt-turn-more}
+use Rattle.layout.proofs.Cntts.{CnttMore, cntt-turn-more, no-fault}
 use Rattle.layout.proofs.GroupSound.{Contents}
 use Rattle.layout.proofs.Lists.{rows-length, getD-rows}
-use Rattle.layout.proofs.Sixteen.{channels-apart}
+use Rattle.layout.proofs.Seen.{ctab-seen}
+use Rattle.layout.proofs.Sixteen.{channels-apart, cntts-apart}
+use Rattle.layout.proofs.Positions.{right-positions}
 use Rattle.layout.proofs.RecordBytes.{record-channel}
 use Rattle.layout.proofs.BytesBack.{read-bytes}
 use Rattle.law_rounds.specs.Rounds.{Bytes}
@@ -30,10 +32,10 @@ use Rattle.law_rounds.proofs.Runs.{run-ran}
 use Rattle.law_rounds.proofs.Blocks.{moved, blocks-read}
 use Rattle.law_rounds.proofs.Chunks.{chunk-read}
 use Rattle.layout.proofs.Pigeonhole.{Apart}
-use Rattle.law_rounds.proofs.Follows.{pairBytes, ownCntt, valueOn, cntts-written}
+use Rattle.law_rounds.proofs.CnttNumbers.{ownCntt, CnttNumbers, rows-number, numbers-right, counted, numbers-bytes}
 use Rattle.law_rounds.proofs.InRange.{none-bad, value-good, absent-good}
 use Rattle.law_rounds.proofs.CtabRounds.{held-size, held-ranged, ctab-read}
-use Rattle.law_rounds.proofs.CnttOrder.{Ordered, order-read, homeRead, follows-read}
+use Rattle.law_rounds.proofs.CnttHomes.{Homes, home-read, none-read}
 use Rattle.law_rounds.proofs.CnttRounds.{cntt-read}
 
 module _ (c : List ℕ) (t n m : ℕ) where
@@ -49,17 +51,17 @@ module _ (c : List ℕ) (t n m : ℕ) where
   abbrev row : ℕ → Record
   row i = recordAt First c (8 + t) (8 + t + 35 * n) m i
 
-  -- the value of Cntt number j
-  abbrev valueAt : ℕ → ℕ
-  valueAt j = getD c (8 + t + 35 * n + 10 * j + 9) 0
+  -- the number of the Ctab that Cntt number j belongs to
+  abbrev home : ℕ → ℕ
+  home j = ctabOf First c (8 + t) n (cnttChannel c (8 + t + 35 * n) j)
 
   channels : (i : ℕ) → channelOf (row i) ≡ ctabChannel First c (8 + t) i
   unfolding channelOf
   channels i = record-channel First c p q m i
 
-  seconds : (i : ℕ) → row i .second ≡ valueOn (cnttChannel c q) valueAt m (ctabChannel First c p i)
-  unfolding recordAt recordOf secondOf cnttOf
-  seconds i = refl
+  row-cntt : (i : ℕ) → (row i .second ≡ secondOf c q m (ctabChannel First c p i)) × (row i .position ≡ positionOf c q m (ctabChannel First c p i))
+  unfolding recordAt recordOf
+  row-cntt i = (refl, refl)
 
   module _ (h : Contents c First t n m) where
     ctab : (i : ℕ) → i < n → CtabMore First c p i (8 + t + 35 * i)
@@ -73,15 +75,32 @@ module _ (c : List ℕ) (t n m : ℕ) where
     apart : Apart (ctabChannel First c p) n
     apart = channels-apart First c p n (h .ctabs) .apart
 
-    ordered : (j : ℕ) → j < m → Ordered c p n q j (cnttChannel c q j)
+    -- ---- the Cntts
+
+    homes : Homes c p n q m home
     unfolding cnttChannel
-    ordered j l = order-read c p n q j (getD c (8 + t + 35 * n + 10 * j + 8) 0) (cntt j l .order)
+    homes =
+        let free : (j : ℕ) → j < m → home j < n = λ j l. no-fault c p n q j (getD c (8 + t + 35 * n + 10 * j + 8) 0) (cntt j l .fault) .1 in
+        record { apart = apart; single = cntts-apart c p n m (h .cntts) .apart; within = free; named = λ j l. ctab-seen First c p n (cnttChannel c q j) (free j l) }
+
+    home-second : (j : ℕ) → j < m → row (home j) .second ≡ Value (getD c (8 + t + 35 * n + 10 * j + 9) 0)
+    home-second j l = row-cntt (home j) .0 ∙ home-read c p n q m home homes j l .0
+
+    numbers : CnttNumbers (rows row 0 n) m home
+    unfolding cnttCount
+    numbers =
+        rows-number row n m home (homes .within) (λ j l. (rw (home-second j l), row-cntt (home j) .1 ∙ home-read c p n q m home homes j l .1))
+        (λ i l d. let x = none-read c p n q m home homes i l d in (rw (row-cntt i .0 ∙ x .0), row-cntt i .1 ∙ x .1))
+
+    pub contents-counted : cnttsIn (groupOf First c t n m .records) ≡ m
+    unfolding groupOf
+    contents-counted = counted (rows row 0 n) m home numbers
 
     held : (i : ℕ) → i < n → bytesOf (row i) ≡ take 26 (drop (8 + t + 35 * i + 8) c)
     unfolding recordAt
     held i l =
         let z = held-size First c p i (8 + t + 35 * i) (ctab i l) in
-        read-bytes (take 26 (drop (8 + t + 35 * i + 8) c)) (secondOf c q m (ctabChannel First c p i)) (omega arith)
+        read-bytes (take 26 (drop (8 + t + 35 * i + 8) c)) (secondOf c q m (ctabChannel First c p i)) (positionOf c q m (ctabChannel First c p i)) (omega arith)
         ∙ take-all 26 (take 26 (drop (8 + t + 35 * i + 8) c)) (omega arith)
 
     -- ---- the bytes
@@ -95,16 +114,20 @@ module _ (c : List ℕ) (t n m : ℕ) where
         moved c p (8 + t + 35 * 0) (omega arith)
         ∙ blocks-read c (λ i. 8 + t + 35 * i) row ctabBytes n (ctab-back b)
 
-    cntts-back : Bytes c → drop q c ≡ flatMap ownCntt (rows row 0 n)
+    cntt-row : (j : ℕ) → j < m → Bytes c → drop (8 + t + 35 * n + 10 * j) c ≡ ownCntt (getD (rows row 0 n) (home j) blank) ++ drop (8 + t + 35 * n + 10 * suc j) c
     unfolding cnttChannel
+    cntt-row j l b =
+        cntt-read c p n q j (8 + t + 35 * n + 10 * j) (cntt j l) b
+        ∙ ap₂ (λ x y. x ++ y) (sym (ap ownCntt (getD-rows row blank n (home j) (homes .within j l)) ∙ ap₂ cnttBytes (channels (home j) ∙ homes .named j l) (home-second j l)))
+        (moved c (8 + t + 35 * n + 10 * j + 10) (8 + t + 35 * n + 10 * suc j) (omega arith))
+
+    cntts-back : Bytes c → drop q c ≡ cnttsBytes (rows row 0 n)
     cntts-back b =
         moved c q (8 + t + 35 * n + 10 * 0) (omega arith)
-        ∙ blocks-read c (λ j. 8 + t + 35 * n + 10 * j) (λ j. (cnttChannel c q j, valueAt j)) pairBytes m
-        (λ j l. cntt-read c p n q j (8 + t + 35 * n + 10 * j) (cntt j l) b
-        ∙ ap (λ x. pairBytes (cnttChannel c q j, valueAt j) ++ x) (moved c (8 + t + 35 * n + 10 * j + 10) (8 + t + 35 * n + 10 * suc j) (omega arith)))
-        ∙ ap (λ x. flatMap pairBytes (rows (λ j. (cnttChannel c q j, valueAt j)) 0 m) ++ x) (moved c (8 + t + 35 * n + 10 * m) (length c) (h .cover) ∙ drop-length c)
+        ∙ blocks-read c (λ j. 8 + t + 35 * n + 10 * j) (λ j. getD (rows row 0 n) (home j) blank) ownCntt m (λ j l. cntt-row j l b)
+        ∙ ap (λ x. flatMap ownCntt (rows (λ j. getD (rows row 0 n) (home j) blank) 0 m) ++ x) (moved c (8 + t + 35 * n + 10 * m) (length c) (h .cover) ∙ drop-length c)
         ∙ append-nil _
-        ∙ sym (cntts-written n m (ctabChannel First c p) (cnttChannel c q) (homeRead c p n q m apart ordered) valueAt (follows-read c p n q m apart ordered) row channels seconds)
+        ∙ sym (numbers-bytes (rows row 0 n) m home numbers)
 
     pub contents-back : Bytes c → payloadBytes (groupOf First c t n m) ≡ c
     unfolding payloadBytes groupOf
@@ -138,8 +161,9 @@ module _ (c : List ℕ) (t n m : ℕ) where
         let at : (i : ℕ) → i < length (rows row 0 n) → getD (rows row 0 n) i blank ≡ row i = λ i u. getD-rows row blank n i (below i u) in
         record {
           text = h .letters;
-          whole = λ i u. rw (at i u) (read-whole _ _);
+          whole = λ i u. rw (at i u) (read-whole _ _ _);
           ranges = λ i u. rw (at i u) (row-ok i (below i u));
           apart = λ i j u v x. apart i j u (below j v)
               (sym (channels i) ∙ ap channelOf (sym (at i (omega arith))) ∙ x ∙ ap channelOf (at j v) ∙ channels j);
+          positions = right-positions (rows row 0 n) (numbers-right (rows row 0 n) m home numbers);
         }

@@ -21,12 +21,18 @@ use Rattle.law_rounds.proofs.Numbered.{accepts-granted, field-numbered}
 field-changed : (r after : Record) (index value : ℕ) → fieldSet r index value ≡ granted after → FieldChanged r index value after
 unfolding fieldSet
 field-changed r after index value e =
-    let new : Record = recordOf (set (bytesOf r) index value) (r .second) in
+    let new : Record = recordOf (set (bytesOf r) index value) (r .second) (r .position) in
     let a = if-granted (leb (held (editionOf r)) index) 16 0 _ after e in
     let b = if-granted (outOf (editionOf r) index (ruleAt (bytesOf r) 0 index) value) 9 index (granted new) after (a .1) in
     let is : new ≡ after = granted-once new after (b .1) in
     let alone = set-alone r after index value e in
-    record { within = leb-false (held (editionOf r)) index (a .0); bytes = alone .0; second = alone .1; whole = rw (← is) (read-whole (set (bytesOf r) index value) (r .second)) }
+    record {
+      within = leb-false (held (editionOf r)) index (a .0);
+      bytes = alone .0;
+      second = alone .1 .0;
+      position = alone .1 .1;
+      whole = rw (← is) (read-whole (set (bytesOf r) index value) (r .second) (r .position));
+    }
 
 -- what is held after an answer: what was granted, or on refusal what was there
 held-after : {A : Type 0} (old now : A) (a : Answer A) (n : ℕ) → n ≡ numberOf a → now ≡ valueOr old a → (n ≡ 0 → ⊥) → now ≡ old

@@ -10,19 +10,18 @@ use Rattle.layout.specs.Bytes.{word, CSEG, Sdec, chunk}
 use Rattle.layout.specs.declared.edition.Edition.the-variants.{First}
 use Rattle.layout.specs.declared.turn.Judged.the-variants.{Sound}
 use Rattle.layout.specs.Group.{contents, payload, groupSize, groupAt, Group, groupOf}
-use Rattle.layout.specs.Write.{ctabBytes, payloadBytes, groupBytes, Allowed}
+use Rattle.layout.specs.Write.{ctabBytes, cnttsIn, cnttsBytes, payloadBytes, groupBytes, Allowed}
 use Rattle.layout.proofs.Texts.{text-most}
 use Rattle.layout.proofs.Heads.{head-sound}
 use Rattle.layout.proofs.Groups.{sdec-tag, cseg-tag, contents-sound, group-sound}
 use Rattle.layout.proofs.GroupPlaces.{payload-length}
+use Rattle.layout.proofs.Positions.{positions-right, cntts-most}
 use Rattle.layout.proofs.GroupSound.{Contents, contents-sound-is, group-sound-is}
 use Rattle.law_rounds.specs.Rounds.{Bytes, GroupRead}
 use Rattle.law_rounds.proofs.Chunks.{bytes-part, chunk-read, length-chunk, written-length, written-rest, written-fits, written-head}
-use Rattle.law_rounds.proofs.Follows.{ownCntt}
-use Rattle.law_rounds.proofs.Seconds.{pairs}
-use Rattle.law_rounds.proofs.ContentsRead.{contents-back, contents-allowed}
+use Rattle.law_rounds.proofs.ContentsRead.{contents-back, contents-counted, contents-allowed}
 use Rattle.law_rounds.proofs.RecordsPlaced.{Placed, records-placed}
-use Rattle.law_rounds.proofs.RecordsWritten.{ctabs-run, cntts-run, records-back, at-most, at-most-cntts}
+use Rattle.law_rounds.proofs.RecordsWritten.{ctabs-run, cntts-run, records-back, at-most}
 
 -- ---- read
 
@@ -36,6 +35,10 @@ module _ (p : List ℕ) (ed : Edition) (t n m : ℕ) (e : groupAt p ≡ Sound ed
 
   pub group-allowed : Allowed (groupOf ed (payload p) t n m)
   group-allowed = subst (λ (x : Edition). Allowed (groupOf x (payload p) t n m)) same (contents-allowed (payload p) t n m inside)
+
+  -- its records have as many Cntts as it has
+  pub group-counted : cnttsIn (groupOf ed (payload p) t n m .records) ≡ m
+  group-counted = subst (λ (x : Edition). cnttsIn (groupOf x (payload p) t n m .records) ≡ m) same (contents-counted (payload p) t n m inside)
 
   pub group-back : Bytes p → groupBytes (groupOf ed (payload p) t n m) ≡ take (groupSize p) p
   unfolding groupBytes payload groupSize
@@ -52,7 +55,7 @@ module _ (p : List ℕ) (ed : Edition) (t n m : ℕ) (e : groupAt p ≡ Sound ed
 
 -- what stands behind the Sdec
 unfoldable pub rest : Group → List ℕ
-rest g = flatMap ctabBytes (g .records) ++ flatMap ownCntt (g .records)
+rest g = flatMap ctabBytes (g .records) ++ cnttsBytes (g .records)
 
 module _ (g : Group) (a : Allowed g) where
   pub spread : payloadBytes g ≡ chunk Sdec (g .text) ++ rest g
@@ -68,7 +71,7 @@ module _ (g : Group) (a : Allowed g) where
   text-back : take (length (g .text)) (drop 8 (payloadBytes g)) ≡ g .text
   text-back = ap (take (length (g .text))) sdec-rest ∙ take-at (g .text) (rest g) (length (g .text)) refl
 
-  ctabs-there : drop (8 + length (g .text)) (payloadBytes g) ≡ flatMap ctabBytes (g .records) ++ flatMap ownCntt (g .records)
+  ctabs-there : drop (8 + length (g .text)) (payloadBytes g) ≡ flatMap ctabBytes (g .records) ++ cnttsBytes (g .records)
   unfolding rest
   ctabs-there =
       sym (drop-drop (length (g .text)) 8 (payloadBytes g)) ∙ ap (drop (length (g .text))) sdec-rest ∙ drop-at (g .text) (rest g) (length (g .text)) refl
@@ -76,19 +79,19 @@ module _ (g : Group) (a : Allowed g) where
   sdec-fits : 8 + length (g .text) ≤ length (payloadBytes g)
   sdec-fits = omega (arith, written-fits (payloadBytes g) 0 Sdec (g .text) (rest g) refl spread)
 
-  placed : Placed (g .records) (payloadBytes g) (8 + length (g .text))
-  placed = records-placed (g .records) (payloadBytes g) (8 + length (g .text)) ctabs-there sdec-fits
+  pub placed : Placed (g .records) (payloadBytes g) (8 + length (g .text))
+  placed = records-placed (g .records) (positions-right (g .records) (a .positions)) (payloadBytes g) (8 + length (g .text)) ctabs-there sdec-fits
 
   -- 16 records and as many Cntts at the most
   pub payload-short : (8 ≤ length (payloadBytes g)) × (length (payloadBytes g) ≤ 983)
   payload-short =
       let w = placed .cover in
       let n = at-most (g .records) (a .ranges) (a .apart) in
-      let m = at-most-cntts (g .records) in
+      let m = cntts-most (g .records) in
       let t = short in
       (omega arith, omega arith)
 
-  pub contents-written : contents (payloadBytes g) ≡ Sound First (length (g .text)) (length (g .records)) (length (pairs (g .records)))
+  pub contents-written : contents (payloadBytes g) ≡ Sound First (length (g .text)) (length (g .records)) (cnttsIn (g .records))
   contents-written =
       let l : ℕ = length (g .text) in
       let c : List ℕ = payloadBytes g in
@@ -97,9 +100,9 @@ module _ (g : Group) (a : Allowed g) where
       (sym (written-length c 0 Sdec (g .text) (rest g) refl spread (omega (arith, short))))
       (rw (z, text-back) (a .text))
       (length (g .records)) (ctabs-run (g .records) (a .whole) (a .ranges) (a .apart) c (8 + l) placed)
-      (length (pairs (g .records))) (cntts-run (g .records) (a .whole) (a .ranges) (a .apart) c (8 + l) placed)
+      (cnttsIn (g .records)) (cntts-run (g .records) (a .whole) (a .ranges) (a .apart) c (8 + l) placed)
 
-  pub value-back : groupOf First (payloadBytes g) (length (g .text)) (length (g .records)) (length (pairs (g .records))) ≡ g
+  pub value-back : groupOf First (payloadBytes g) (length (g .text)) (length (g .records)) (cnttsIn (g .records)) ≡ g
   unfolding groupOf
   value-back =
       λ i. record { text = text-back i; records = records-back (g .records) (a .whole) (a .ranges) (a .apart) (payloadBytes g) (8 + length (g .text)) placed i }
@@ -123,7 +126,7 @@ module _ (g : Group) (a : Allowed g) where
         let z : 8 + length (payloadBytes g) - 8 ≡ length (payloadBytes g) = omega arith in
         let rest-there = written-rest (groupBytes g ++ x) 0 CSEG (payloadBytes g) x refl chunked in
         record {
-          cntts = length (pairs (g .records));
+          cntts = cnttsIn (g .records);
           sound = group-sound (groupBytes g ++ x) 0 (sym (rw cseg-tag (written-head (groupBytes g ++ x) 0 CSEG (payloadBytes g) x refl chunked (omega (arith, payload-short .1))))) refl l
               (sym length-there) (omega (arith, payload-short .0)) _ _ _ _
               (rw (z, rest-there, take-at (payloadBytes g) x (length (payloadBytes g)) refl) contents-written);

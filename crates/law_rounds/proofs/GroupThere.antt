@@ -11,11 +11,10 @@ use Rattle.layout.specs.declared.turn.Judged.the-variants.{Sound}
 use Rattle.layout.specs.Records.{bytesOf, blank, channelOf, fileBytes}
 use Rattle.layout.specs.Group.{headFault, payload, groupSize, groupAt, Group, groupOf}
 use Rattle.layout.specs.Body.{textAt, groupValue}
-use Rattle.layout.specs.Write.{ctabBytes, payloadBytes, groupBytes, Allowed}
+use Rattle.layout.specs.Write.{ctabBytes, cnttsBytes, payloadBytes, groupBytes, Allowed}
 use Rattle.layout.proofs.Records.{bytes-length}
 use Rattle.law_rounds.proofs.Blocks.{moved, blocks-written}
 use Rattle.law_rounds.proofs.Chunks.{length-chunk, written-length, written-rest, written-fits, written-head}
-use Rattle.law_rounds.proofs.Follows.{ownCntt}
 use Rattle.law_rounds.proofs.CtabRounds.{length-ctab, channel-at}
 use Rattle.law_rounds.proofs.GroupRounds.{rest, spread, short, payload-short, group-read}
 
@@ -68,8 +67,8 @@ module _ (s : List ℕ) (at : ℕ) (g : Group) (y : List ℕ) (e : drop at s ≡
   unfolding rest ctabBytes fileBytes channelOf bytesOf
   there-channel i l =
       channel-at First s (at + 16 + length (g .text) + 35 * i) (bytesOf (getD (g .records) i blank)) _ (bytes-length (getD (g .records) i blank))
-      (blocks-written s (λ i. at + 16 + length (g .text) + 35 * i) blank ctabBytes (flatMap ownCntt (g .records) ++ y) (g .records)
+      (blocks-written s (λ i. at + 16 + length (g .text) + 35 * i) blank ctabBytes (cnttsBytes (g .records) ++ y) (g .records)
       (λ i x l r. omega (arith, length-ctab (getD (g .records) i blank)))
       (moved s (at + 16 + length (g .text) + 35 * 0) (at + 16 + length (g .text)) (omega arith) ∙ sym (drop-drop (length (g .text)) (at + 16) s)
       ∙ ap (drop (length (g .text))) text-there ∙ drop-at (g .text) (rest g ++ y) (length (g .text)) refl
-      ∙ append-assoc (flatMap ctabBytes (g .records)) (flatMap ownCntt (g .records)) y) .0 i l)
+      ∙ append-assoc (flatMap ctabBytes (g .records)) (cnttsBytes (g .records)) y) .0 i l)

@@ -3,11 +3,10 @@ pub mod RecordBack
 pub mod Runs
 pub mod Blocks
 pub mod Chunks
-pub mod Follows
-pub mod Seconds
+pub mod CnttNumbers
 pub mod InRange
 pub mod CtabRounds
-pub mod CnttOrder
+pub mod CnttHomes
 pub mod CnttRounds
 pub mod ContentsRead
 pub mod RecordsPlaced
@@ -29,3 +28,6 @@ pub mod ReadWrittenCall
 pub mod WrittenReadCall
 pub mod EditCall
 pub mod FieldCall
+pub mod AnyPosition
+pub mod Renumbered
+pub mod Rearranged

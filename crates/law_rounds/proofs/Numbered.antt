@@ -24,7 +24,7 @@ use Rattle.layout.specs.Answers.{Answer, refused, granted, numberOf, afterRun}
 use Rattle.layout.specs.Group.{headFault, ctabPlace, groupAt}
 use Rattle.layout.specs.Body.{groupPlace, sharing, afterContents, groupTurnAt, groupTurn, bodyRun, groupNo}
 use Rattle.layout.specs.Asked.{standing, ofGroup, rowIn, ofChannel, recordsRead}
-use Rattle.layout.specs.Write.{groupBytes, recordOn, recordTurn, recordsRun, groupFrom, written}
+use Rattle.layout.specs.Write.{groupBytes, wrongPositions, recordOn, recordTurn, recordsRun, groupFrom, written}
 use Rattle.layout.specs.Edit.{replaced, firstEdited, edited}
 use Rattle.layout.specs.Screen.{fieldSet}
 use Rattle.layout.proofs.Runs.{run-stopped}
@@ -106,7 +106,7 @@ pub field-numbered : (r : Record) (index value : ℕ) → Numbered (fieldSet r i
 unfolding fieldSet
 field-numbered r index value =
     if-numbered (leb (held (editionOf r)) index) 16 0 _ (omega arith) (if-numbered (outOf (editionOf r) index (ruleAt (bytesOf r) 0 index) value) 9 index _ (omega arith)
-    (granted-numbered (recordOf (set (bytesOf r) index value) (r .second))))
+    (granted-numbered (recordOf (set (bytesOf r) index value) (r .second) (r .position))))
 
 -- ---- writing
 
@@ -130,4 +130,4 @@ written-numbered text table count room =
     let b : List ℕ = groupBytes (groupFrom text table count) in
     if-numbered (ltb (length table) count) 16 0 _ (omega arith) (if-numbered (not (soundText text)) 8 0 _ (omega arith)
     (run-numbered (recordsRun (take count table)) _ (records-run-numbered (take count table))
-    (λ n. if-numbered (ltb room (length b)) 14 0 _ (omega arith) (granted-numbered b))))
+    (λ n. if-numbered (wrongPositions (take count table)) 18 0 _ (omega arith) (if-numbered (ltb room (length b)) 14 0 _ (omega arith) (granted-numbered b)))))

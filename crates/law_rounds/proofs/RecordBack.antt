@@ -37,10 +37,11 @@ with r v o h =
       high = r .high;
       retrigger = r .retrigger;
       second = r .second;
+      position = r .position;
     }
 
 -- a record that has all its bytes is read from them
-pub bytes-read : (r : Record) → Whole r → recordOf (bytesOf r) (r .second) ≡ r
+pub bytes-read : (r : Record) → Whole r → recordOf (bytesOf r) (r .second) (r .position) ≡ r
 unfolding bytesOf recordOf spelled
 bytes-read r w =
     ap (λ (v : List ℕ). with r v (spelled (r .roots) 0 2) (spelled (r .chords) 0 5)) (spelled-whole 8 (r .voice) (w .voice))
@@ -48,30 +49,30 @@ bytes-read r w =
     ∙ ap (λ (h : List ℕ). with r (r .voice) (r .roots) h) (spelled-whole 5 (r .chords) (w .chords)))
 
 -- a record that was read has all its bytes
-pub read-whole : (b : List ℕ) (second : SecondTable) → Whole (recordOf b second)
+pub read-whole : (b : List ℕ) (second : SecondTable) (position : ℕ) → Whole (recordOf b second position)
 unfolding recordOf
-read-whole b second = record { voice = refl; roots = refl; chords = refl }
+read-whole b second position = record { voice = refl; roots = refl; chords = refl }
 
 -- ---- one field byte set
 
 set-length : (r : Record) (index value : ℕ) → length (set (bytesOf r) index value) ≡ held (editionOf r)
 set-length r index value = length-set (bytesOf r) index value ∙ bytes-length r
 
-set-bytes : (r : Record) (index value : ℕ) → bytesOf (recordOf (set (bytesOf r) index value) (r .second)) ≡ set (bytesOf r) index value
+set-bytes : (r : Record) (index value : ℕ) → bytesOf (recordOf (set (bytesOf r) index value) (r .second) (r .position)) ≡ set (bytesOf r) index value
 set-bytes r index value =
-    read-bytes (set (bytesOf r) index value) (r .second) (omega (arith, set-length r index value))
+    read-bytes (set (bytesOf r) index value) (r .second) (r .position) (omega (arith, set-length r index value))
     ∙ take-all (held (editionOf r)) (set (bytesOf r) index value) (omega (arith, set-length r index value))
 
-set-second : (b : List ℕ) (second : SecondTable) → recordOf b second .second ≡ second
+kept : (b : List ℕ) (second : SecondTable) (position : ℕ) → (recordOf b second position .second ≡ second) × (recordOf b second position .position ≡ position)
 unfolding recordOf
-set-second b second = refl
+kept b second position = (refl, refl)
 
 pub set-alone : (r after : Record) (index value : ℕ) → fieldSet r index value ≡ granted after
-    → (bytesOf after ≡ set (bytesOf r) index value) × (after .second ≡ r .second)
+    → (bytesOf after ≡ set (bytesOf r) index value) × ((after .second ≡ r .second) × (after .position ≡ r .position))
 unfolding fieldSet
 set-alone r after index value e =
-    let new : Record = recordOf (set (bytesOf r) index value) (r .second) in
+    let new : Record = recordOf (set (bytesOf r) index value) (r .second) (r .position) in
     let a = if-granted (leb (held (editionOf r)) index) 16 0 _ after e in
     let b = if-granted (outOf (editionOf r) index (ruleAt (bytesOf r) 0 index) value) 9 index (granted new) after (a .1) in
     let z : new ≡ after = granted-once new after (b .1) in
-    rw (← z) (set-bytes r index value, set-second (set (bytesOf r) index value) (r .second))
+    rw (← z) (set-bytes r index value, kept (set (bytesOf r) index value) (r .second) (r .position))

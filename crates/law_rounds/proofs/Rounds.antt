@@ -26,11 +26,11 @@ use Rattle.law_rounds.proofs.BodyRounds.{body-back, body-allowed, body-
 use Rattle.law_rounds.proofs.EditRounds.{edit-back}
 
 -- a record's bytes 0-25 are those that it was read from
-pub bytes-back : (b : List ℕ) (second : SecondTable) → 26 ≤ length b → bytesOf (recordOf b second) ≡ take 26 b
+pub bytes-back : (b : List ℕ) (second : SecondTable) (position : ℕ) → 26 ≤ length b → bytesOf (recordOf b second position) ≡ take 26 b
 bytes-back = read-bytes
 
 -- a record that has all its bytes is read back from them
-pub record-back : (r : Record) → Whole r → recordOf (bytesOf r) (r .second) ≡ r
+pub record-back : (r : Record) → Whole r → recordOf (bytesOf r) (r .second) (r .position) ≡ r
 record-back = bytes-read
 
 -- a sound group is given back byte for byte by writing it, and it may be written
@@ -64,11 +64,15 @@ written-is-accepted s n w = rw (← (w .bytes), ← (w .count)) (body-run (w .gr
 pub accepted-exactly : (s : List ℕ) (n : ℕ) → Bytes s → (bodyRun s ≡ Ended n) ↔ WrittenAs s n
 accepted-exactly s n b = (accepted-is-written s n b, written-is-accepted s n)
 
--- a body after an edit is read as the body before it but for that one record, whose Cntt is kept
+-- a body after an edit is read as the body before it but for that one record, whose Cntt is kept, with its position
 pub edit-read : (s after : List ℕ) (g channel : ℕ) (new : Record) → Bytes s → Whole new → edited s g channel new ≡ granted after → EditRead s after g channel new
 edit-read = edit-back
 
 -- a field byte that is set on the screen changes that byte of the record, and nothing else of it
 pub field-alone : (r after : Record) (index value : ℕ) → fieldSet r index value ≡ granted after
-    → (bytesOf after ≡ set (bytesOf r) index value) × (after .second ≡ r .second)
+    → (bytesOf after ≡ set (bytesOf r) index value) × ((after .second ≡ r .second) × (after .position ≡ r .position))
 field-alone = set-alone
+
+-- .. so its position is kept
+pub field-keeps-position : (r after : Record) (index value : ℕ) → fieldSet r index value ≡ granted after → after .position ≡ r .position
+field-keeps-position r after index value e = set-alone r after index value e .1 .1

@@ -1,7 +1,7 @@
--- A list with one element set: what then holds of each element, and of the blocks that the list writes.
-use Prim.Native.Nat.{ℕ, zero, suc, _<_}
-use mathlib.Core.Path.{_≡_, refl, ap, _∙_}
-use mathlib.Core.List.{List, [], _∷_, _++_, flatMap}
+-- A list with one element set: what then holds of each element.
+use Prim.Native.Nat.{ℕ, _<_}
+use mathlib.Core.Path.{_≡_, ap, _∙_}
+use mathlib.Core.List.{List}
 use native.Mathlib.Omega.{arith}
 use native.Mathlib.Decide.{decLt}
 use lib.ListN.{length, getD, set, length-set}
@@ -30,10 +30,3 @@ set-same f l i x d e j h = go (decLt i j) (decLt j i)
     go (yes a) b = ap f (getD-set-other l i j x d (omega arith))
     go (no a) (yes b) = ap f (getD-set-other l i j x d (omega arith))
     go (no a) (no b) = let z : j ≡ i = omega arith in rw z (ap f (getD-set-same l i x d (rw z at h)) ∙ e)
-
--- .. and so are the blocks, where its own is
-pub flat-same : {A : Type 0} (f : A → List ℕ) (l : List A) (i : ℕ) (x d : A) → f x ≡ f (getD l i d) → flatMap f (set l i x) ≡ flatMap f l
-unfolding flatMap
-flat-same f [] i x d e = refl
-flat-same f (a ∷ l) zero x d e = ap (λ y. y ++ flatMap f l) e
-flat-same f (a ∷ l) (suc i) x d e = ap (λ y. f a ++ y) (flat-same f l i x d e)

@@ -1,4 +1,4 @@
--- What may be written is what is written: the run over the records goes on exactly where each is in range and of a source channel of its own.
+-- What may be written is what is written: the run over the records goes on exactly where each is in range and of a source channel of its own, and then no position is wrong.
 use Prim.Native.Nat.{ℕ, zero, suc, _+_, _*_, _-_, _≤_, _<_}
 use mathlib.Core.Path.{_≡_, refl, sym, ap, _∙_}
 use mathlib.Core.Bool.{Bool, true, false, cond, not}
@@ -19,7 +19,7 @@ use Rattle.layout.specs.declared.record.Record.{Record}
 use Rattle.layout.specs.Records.{blank, channelOf, badByte, firstBad}
 use Rattle.layout.specs.Sdec.{soundText}
 use Rattle.layout.specs.Answers.{refused, granted, afterRun}
-use Rattle.layout.specs.Write.{groupBytes, recordOn, recordTurn, recordsRun, groupFrom, written}
+use Rattle.layout.specs.Write.{groupBytes, wrongPosition, wrongPositions, recordOn, recordTurn, recordsRun, groupFrom, written}
 use Rattle.layout.proofs.Scans.{first-passed, first-within, first-none}
 use Rattle.law_rounds.specs.Calls.{WholeTable, MayBeWritten}
 use Rattle.law_rounds.proofs.Granted.{if-granted, granted-once}
@@ -96,6 +96,14 @@ module _ (rs : List Record) where
       let z : 0 + (length rs - 0) ≡ length rs = omega arith in
       goes-on (recordTurn rs) 0 (length rs - 0) (λ i l. good-more rs i (h i (omega arith))) ∙ ap Ended z
 
+  each-right : wrongPositions rs ≡ false → (i : ℕ) → i < length rs → wrongPosition rs i ≡ false
+  unfolding wrongPositions
+  each-right e i l = first-passed (wrongPosition rs) (length rs) i (omega (arith, ltb-false (first (wrongPosition rs) 0 (length rs)) (length rs) e))
+
+  all-right : ((i : ℕ) → i < length rs → wrongPosition rs i ≡ false) → wrongPositions rs ≡ false
+  unfolding wrongPositions
+  all-right h = rw (first-none (wrongPosition rs) (length rs) h) (le-ltb (length rs) (length rs) (omega arith))
+
 -- ---- the group
 
 module _ (text : List ℕ) (table : List Record) (count room : ℕ) (b : List ℕ) where
@@ -116,15 +124,16 @@ module _ (text : List ℕ) (table : List Record) (count room : ℕ) (b : List �
       go (ltb-false _ _ (f .0)) (not-false _ (g .0)) (recordsRun rs) refl (g .1)
     where
       go : count ≤ length table → soundText text ≡ true → (r : Run) → recordsRun rs ≡ r
-          → afterRun r (λ n. cond (ltb room (length own)) (refused 14 0) (granted own)) ≡ granted b → MayBeWritten text table count room b
+          → afterRun r (λ n. cond (wrongPositions rs) (refused 18 0) (cond (ltb room (length own)) (refused 14 0) (granted own))) ≡ granted b → MayBeWritten text table count room b
       go few sound (Stopped number place) run q = absurd (let z : _≡_ {A = ℕ} 0 1 = cc in omega arith)
       go few sound (Ended n) run q =
-          let h = if-granted (ltb room (length own)) 14 0 (granted own) b q in
+          let k = if-granted (wrongPositions rs) 18 0 _ b q in
+          let h = if-granted (ltb room (length own)) 14 0 (granted own) b (k .1) in
           let is : own ≡ b = granted-once own b (h .1) in
           let good = ended-good rs n run in
           record {
             within = few;
-            allowed = record { text = sound; whole = whole; ranges = λ i l. good i l .0; apart = λ i j k l. good j l .1 i k };
+            allowed = record { text = sound; whole = whole; ranges = λ i l. good i l .0; apart = λ i j k l. good j l .1 i k; positions = each-right rs (k .0) };
             bytes = sym is;
             fits = rw (← is) (ltb-false _ _ (h .0));
           }
@@ -135,7 +144,7 @@ module _ (text : List ℕ) (table : List Record) (count room : ℕ) (b : List �
   may-written h =
       let run : recordsRun rs ≡ Ended (length rs) = good-ended rs (λ i l. (h .allowed .ranges i l, λ j k. h .allowed .apart j i k l)) in
       let fits : length own ≤ room = rw (h .bytes) at (h .fits) in
-      rw (le-ltb (length table) count (h .within), h .allowed .text, run, le-ltb room (length own) fits, afterRun) (ap granted (sym (h .bytes)))
+      rw (le-ltb (length table) count (h .within), h .allowed .text, run, all-right rs (h .allowed .positions), le-ltb room (length own) fits, afterRun) (ap granted (sym (h .bytes)))
 
 -- a group is written exactly where it may be
 pub written-exactly : (text : List ℕ) (table : List Record) (count room : ℕ) (b : List ℕ) → WholeTable (take count table)

@@ -76,4 +76,5 @@ pub record FieldChanged (before : Record) (index value : ℕ) (after : Record) :
   pub within : index < held (editionOf before)
   pub bytes : bytesOf after ≡ set (bytesOf before) index value
   pub second : after .second ≡ before .second
+  pub position : after .position ≡ before .position
   pub whole : Whole after

@@ -52,8 +52,8 @@ note-placed r root note = equation _
 pub field-set : (old : Record) (index value : ℕ) → Determines (FieldSet old index value)
 field-set old index value = equation _
 
-pub record-made : (b : List ℕ) (second : SecondTable) → Determines (RecordMade b second)
-record-made b second = equation _
+pub record-made : (b : List ℕ) (second : SecondTable) (position : ℕ) → Determines (RecordMade b second position)
+record-made b second position = equation _
 
 pub bytes-told : (r : Record) → Determines (BytesTold r)
 bytes-told r = equation _

@@ -1,3 +1,3 @@
-pub mod OrderLaws
+pub mod CnttLaws
 pub mod CtabHomes
 pub mod HomeLaws

@@ -1,11 +1,10 @@
-// The run of Cntts, after the Ctabs. The Ctab of a channel and an earlier Cntt of it are looked up in tables.
+// The run of Cntts, after the Ctabs, in any order. The Ctab of a channel and an earlier Cntt of it are looked up in tables.
 ghost use mathlib.Core.Path.{_≡_};
 ghost use Prim.Native.Nat.{_+_, _*_, _≤_};
 ghost use lib.ListN.{length};
 ghost use Rattle.layout.specs.declared.edition.Edition.the-variants.{First};
 ghost use Rattle.layout.specs.Group.{ctabPlace, ctabChannel, cnttChannel, cnttTurn, cnttsOf};
-ghost use Rattle.read_group.specs.Homes.{Homes};
-ghost use Rattle.read_group.specs.Order.{lastHome, orderFault};
+ghost use Rattle.read_group.specs.Homes.{Homes, homeFault};
 use layout::limit::CHANNELS;
 use layout::refusal::BAD_SIZE;
 use layout::refusal::CHANNEL_AGAIN;
@@ -18,18 +17,14 @@ use layout::tag::CNTT;
 use layout::turn::Run;
 use layout::turn::Turn;
 
-// The refusal of a Cntt by the home of its channel among the Ctabs, its home among the Cntts before it,
-// and the number of the Ctab that the Cntt before it belongs to; 0 where there is none.
-fn order_fault(home: usize, again: usize, last: usize) -> u8
-    ensures { λ r. ⌜ r ≡ orderFault home again last ⌝ }
+// The refusal of a Cntt by the home of its channel among the Ctabs and its home among the Cntts before it; 0 where there is none.
+fn home_fault(home: usize, again: usize) -> u8
+    ensures { λ r. ⌜ r ≡ homeFault home again ⌝ }
 {
     if again != 0 {
         return CHANNEL_AGAIN;
     }
     if home == 0 {
-        return STRAY_CNTT;
-    }
-    if home - 1 < last {
         return STRAY_CNTT;
     }
     0
@@ -43,9 +38,8 @@ fn cntt_turn(
     j: usize,
     homes: &[usize; CHANNELS],
     seen: &[usize; CHANNELS],
-    last: usize,
 ) -> Turn
-    requires { ⌜ (ctabPlace First p n + 10 * j ≤ length (now c)) × (Homes (ctabChannel First (now c) p) n (now homes) × (Homes (cnttChannel (now c) (ctabPlace First p n)) j (now seen) × (last ≡ lastHome (now c) p n j))) ⌝ }
+    requires { ⌜ (ctabPlace First p n + 10 * j ≤ length (now c)) × (Homes (ctabChannel First (now c) p) n (now homes) × Homes (cnttChannel (now c) (ctabPlace First p n)) j (now seen)) ⌝ }
     ensures { λ r. ⌜ r ≡ cnttTurn (now (c .entry)) p n (ctabPlace First p n) j ⌝ }
 {
     let at = p + CTAB_STRIDE * n + CNTT_STRIDE * j;
@@ -66,7 +60,7 @@ fn cntt_turn(
     if !read_ranges::is_cntt_value(read_bytes::byte(c, at + 9)) {
         return Turn::Refused(OUT_OF_RANGE, at + 9);
     }
-    let fault = order_fault(homes[channel], seen[channel], last);
+    let fault = home_fault(homes[channel], seen[channel]);
     if fault != 0 {
         return Turn::Refused(fault, at);
     }
@@ -79,17 +73,15 @@ pub fn read_cntts(c: &[u8], p: usize, n: usize, homes: &[usize; CHANNELS]) -> Ru
     ensures { λ r. ⌜ r ≡ cnttsOf (now (c .entry)) p n ⌝ }
 {
     let mut seen: [usize; CHANNELS] = [0; CHANNELS];
-    let mut last: usize = 0;
     let mut j: usize = 0;
     loop {
-        match cntt_turn(c, p, n, j, homes, &seen, last) {
+        match cntt_turn(c, p, n, j, homes, &seen) {
             Turn::Refused(number, place) => return Run::Stopped(number, place),
             Turn::Done => return Run::Ended(j),
             Turn::More => {}
         }
         let channel = read_bytes::byte(c, p + CTAB_STRIDE * n + CNTT_STRIDE * j + 8);
         seen[channel] = j + 1;
-        last = homes[channel] - 1;
         j += 1;
     }
 }

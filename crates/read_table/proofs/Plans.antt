@@ -5,7 +5,7 @@ use mathlib.Core.Path.{_≡_, sym, ap, subst, _∙_}
 use mathlib.Core.Bool.{cond}
 use mathlib.Core.List.{List, []}
 use lib.Dec.{ltb}
-use lib.ListN.{length}
+use lib.ListN.{length, drop}
 use borrow.Author.Tests.{lt-ltb, le-ltb}
 use Rattle.layout.specs.declared.record.Record.{Record}
 use Rattle.layout.specs.declared.answer.Counted.{Counted}
@@ -20,6 +20,7 @@ use Rattle.layout.specs.Asked.{standingAt, standing, recordsRead}
 use Rattle.layout.proofs.Lists.{rows-length}
 use Rattle.layout.proofs.RecordBytes.{records-there}
 use Rattle.layout.proofs.Accepted.{body-accepted}
+use Rattle.layout.proofs.Sixteen.{group-cntts}
 use Rattle.read_find.specs.declared.Search.the-variants.{Refused, Missing}
 use Rattle.read_find.specs.Find.{groupLocated}
 use Rattle.read_find.proofs.AskLaws.{There, there-within, of-refused, of-missing, of-found}
@@ -38,6 +39,13 @@ found-records s g x there =
     let more = body-accepted s (there .count) (there .run) .each g (there .below) in
     rw (← (there .stands)) (rw (more .sound, standingAt) (rw (more .sound) at (records-there s (groupPlace s g) (more .edition) (more .text) (more .ctabs) (more .cntts) (more .sound))))
 
+-- its Cntts are at most sixteen
+found-few : (s : List ℕ) (g : ℕ) (x : Standing) → There s g x → x .seconds ≤ 16
+unfolding standing standingAt
+found-few s g x there =
+    let more = body-accepted s (there .count) (there .run) .each g (there .below) in
+    rw (← (there .stands)) (rw (more .sound, standingAt) (group-cntts (drop (groupPlace s g) s) (more .edition) (more .text) (more .ctabs) (more .cntts) (more .sound)))
+
 -- ---- the ways out
 
 module _ (s : List ℕ) (g room : ℕ) where
@@ -53,7 +61,7 @@ module _ (s : List ℕ) (g room : ℕ) where
   pub planned-no : (r : Reading) (a b : ℕ) → r ≡ noReading a b → recordsRead s g room ≡ refused a b → ReadingPlanned s g room r
   unfolding numberOf placeOf valueOr rows
   planned-no r a b e q =
-      rw e (record { number = rw q; place = rw q; records = rw q; fits = omega arith; ctabs = omega arith; cntts = omega arith })
+      rw e (record { number = rw q; place = rw q; records = rw q; fits = omega arith; ctabs = omega arith; cntts = omega arith; few = omega arith })
 
   module _ (x : Standing) (there : There s g x) where
     -- what is asked of the group
@@ -80,6 +88,7 @@ module _ (s : List ℕ) (g room : ℕ) where
           fits = h;
           ctabs = subst (λ (e : Edition). ctabPlace e (x .ctabs) (x .records) ≤ length s) (sym (w .edition)) (w .ctabs);
           cntts = w .cntts;
+          few = found-few s g x there;
         }
 
 -- ---- a plan carried out
@@ -96,5 +105,5 @@ told-answer s g room p r h e =
 
 -- the bounds that carrying it out needs
 module _ (s : List ℕ) (g room : ℕ) (p : Reading) (h : ReadingPlanned s g room p) (i : ℕ) (l : i < p .count) where
-  pub planned-within : (ctabPlace First (p .ctabs) (i + 1) ≤ length s) × (p .cntts + 10 * p .seconds ≤ length s)
-  planned-within = (omega (arith, h .ctabs, l), h .cntts)
+  pub planned-within : (ctabPlace First (p .ctabs) (i + 1) ≤ length s) × ((p .cntts + 10 * p .seconds ≤ length s) × (p .seconds ≤ 16))
+  planned-within = (omega (arith, h .ctabs, l), (h .cntts, h .few))

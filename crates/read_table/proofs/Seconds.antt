@@ -1,5 +1,5 @@
--- The Cntt of a source channel, looked for from number j on: here, next, or none; and the record that has it.
-use Prim.Native.Nat.{ℕ, _+_, _-_, _*_, _<_}
+-- The Cntt of a source channel, looked for from number j on: here, next, or none; what it says; and the record that has it.
+use Prim.Native.Nat.{ℕ, _+_, _-_, _*_, _≤_, _<_}
 use native.Mathlib.Omega.{arith}
 use mathlib.Core.Path.{_≡_, refl, sym, _∙_}
 use mathlib.Core.List.{List}
@@ -11,8 +11,9 @@ use Rattle.layout.specs.declared.record.SecondTable.the-variants.{Absent, Value
 use Rattle.layout.specs.declared.edition.Edition.the-variants.{First}
 use Rattle.layout.specs.Records.{recordOf}
 use Rattle.layout.specs.Scan.{first}
-use Rattle.layout.specs.Group.{ctabPlace, ctabChannel, cnttChannel, cnttOf, secondOf, recordAt}
+use Rattle.layout.specs.Group.{ctabPlace, ctabChannel, cnttChannel, cnttOf, secondOf, positionOf, recordAt}
 use Rattle.layout.proofs.Scans.{first-end, first-here, first-next}
+use Rattle.read_table.specs.Reading.{secondBy, positionBy}
 
 module _ (s : List ℕ) (q m channel : ℕ) where
   -- the Cntt of the channel is the first from number j on
@@ -27,22 +28,37 @@ module _ (s : List ℕ) (q m channel : ℕ) where
   unfolding cnttChannel
   sought-next j e l h = e ∙ first-next (λ k. eqb (cnttChannel s q k) channel) j m l (ne-eqb _ _ h)
 
-  pub second-here : (j : ℕ) → Sought j → j < m → getD s (q + 10 * j + 8) 0 ≡ channel → Value (getD s (q + 10 * j + 9) 0) ≡ secondOf s q m channel
-  unfolding cnttChannel secondOf
-  second-here j e l h =
-      let f : cnttOf s q m channel ≡ j = e ∙ first-here (λ k. eqb (cnttChannel s q k) channel) j m l (eq-eqb _ _ h) in
-      sym (rw (f, lt-ltb j m l))
+  pub sought-here : (j : ℕ) → Sought j → j < m → getD s (q + 10 * j + 8) 0 ≡ channel → j ≡ cnttOf s q m channel
+  unfolding cnttChannel
+  sought-here j e l h = sym (e ∙ first-here (λ k. eqb (cnttChannel s q k) channel) j m l (eq-eqb _ _ h))
 
-  pub second-none : (j : ℕ) → Sought j → m ≡ j → Absent ≡ secondOf s q m channel
-  unfolding secondOf
-  second-none j e h =
-      let f : cnttOf s q m channel ≡ j = e ∙ first-end (λ k. eqb (cnttChannel s q k) channel) j m h in
-      sym (rw (f, le-ltb j m (omega arith)))
+  pub sought-none : (j : ℕ) → Sought j → m ≡ j → m ≡ cnttOf s q m channel
+  sought-none j e h = h ∙ sym (e ∙ first-end (λ k. eqb (cnttChannel s q k) channel) j m h)
 
--- the 26 bytes where they are lent, and the second table found for the first of them
-pub record-here : (s : List ℕ) (p q m i at : ℕ) (second : SecondTable) → at ≡ ctabPlace First p i + 8 → second ≡ secondOf s q m (getD s at 0)
-    → recordOf (take (at + 26 - at) (drop at s)) second ≡ recordAt First s p q m i
-unfolding recordAt ctabChannel
-record-here s p q m i at second e f =
+-- Cntt number j of m: its value ..
+module _ (s : List ℕ) (q m j : ℕ) where
+  pub second-there : j < m → Value (getD s (q + 10 * j + 9) 0) ≡ secondBy s q m j
+  unfolding secondBy
+  second-there l = sym (rw (lt-ltb j m l))
+
+  pub second-none : m ≤ j → Absent ≡ secondBy s q m j
+  unfolding secondBy
+  second-none l = sym (rw (le-ltb j m l))
+
+-- .. and its position
+module _ (m j : ℕ) where
+  pub position-there : j < m → j + 1 ≡ positionBy m j
+  unfolding positionBy
+  position-there l = sym (rw (lt-ltb j m l))
+
+  pub position-none : m ≤ j → 0 ≡ positionBy m j
+  unfolding positionBy
+  position-none l = sym (rw (le-ltb j m l))
+
+-- the 26 bytes where they are lent, and the Cntt found for the first of them
+pub record-here : (s : List ℕ) (p q m i at j : ℕ) (second : SecondTable) (position : ℕ) → at ≡ ctabPlace First p i + 8 → j ≡ cnttOf s q m (getD s at 0)
+    → second ≡ secondBy s q m j → position ≡ positionBy m j → recordOf (take (at + 26 - at) (drop at s)) second position ≡ recordAt First s p q m i
+unfolding recordAt ctabChannel secondOf positionOf secondBy positionBy
+record-here s p q m i at j second position e h f g =
     let z : at + 26 - at ≡ 26 = omega arith in
-    rw (z, f, e)
+    rw (z, f, g, h, e)

@@ -5,8 +5,8 @@ ghost use mathlib.Core.Path.{_≡_};
 ghost use Prim.Native.Nat.{_+_, _*_, _≤_};
 ghost use lib.ListN.{length};
 ghost use Rattle.layout.specs.declared.edition.Edition.the-variants.{First};
-ghost use Rattle.layout.specs.Group.{ctabPlace, secondOf, recordAt};
-ghost use Rattle.read_table.specs.Reading.{noReading, toldOf, ReadingPlanned};
+ghost use Rattle.layout.specs.Group.{ctabPlace, cnttOf, recordAt};
+ghost use Rattle.read_table.specs.Reading.{noReading, toldOf, ReadingPlanned, secondBy, positionBy};
 use layout::answer::Counted;
 use layout::record::Record;
 use layout::record::SecondTable;
@@ -64,30 +64,54 @@ pub fn plan_records(s: &[u8], group: usize, room: usize) -> Reading
     }
 }
 
-// The second table of a source channel: the value of its Cntt among those from `cntts` on, or absent.
-fn second_at(s: &[u8], cntts: usize, seconds: usize, channel: u8) -> SecondTable
+// The number of a source channel's Cntt among those from `cntts` on, or how many there are where it has none.
+fn cntt_of(s: &[u8], cntts: usize, seconds: usize, channel: u8) -> usize
     requires { ⌜ cntts + 10 * seconds ≤ length (now s) ⌝ }
-    ensures { λ r. ⌜ r ≡ secondOf (now (s .entry)) cntts seconds channel ⌝ }
+    ensures { λ j. ⌜ j ≡ cnttOf (now (s .entry)) cntts seconds channel ⌝ }
 {
     let mut j: usize = 0;
     while j < seconds {
         let at = cntts + CNTT_STRIDE * j;
         if s[at + 8] == channel {
-            return SecondTable::Value(s[at + 9]);
+            return j;
         }
         j += 1;
+    }
+    seconds
+}
+
+// The second table of Cntt number j: its value, or absent where there is none of that number.
+fn second_at(s: &[u8], cntts: usize, seconds: usize, j: usize) -> SecondTable
+    requires { ⌜ cntts + 10 * seconds ≤ length (now s) ⌝ }
+    ensures { λ r. ⌜ r ≡ secondBy (now (s .entry)) cntts seconds j ⌝ }
+{
+    if j < seconds {
+        return SecondTable::Value(s[cntts + CNTT_STRIDE * j + 9]);
     }
     SecondTable::Absent
 }
 
-// Record number i of a plan: bytes 0-25 of its Ctab where they stand, and its Cntt.
+// .. and its position, counted from 1; 0 for none.
+fn position_at(seconds: usize, j: usize) -> u8
+    requires { ⌜ seconds ≤ 16 ⌝ }
+    ensures { λ r. ⌜ r ≡ positionBy seconds j ⌝ }
+{
+    if j < seconds {
+        return (j + 1) as u8;
+    }
+    0
+}
+
+// Record number i of a plan: bytes 0-25 of its Ctab where they stand, and its Cntt with its position.
 pub fn record_at(s: &[u8], plan: Reading, i: usize) -> Record
-    requires { ⌜ (ctabPlace First (plan .ctabs) (i + 1) ≤ length (now s)) × (plan .cntts + 10 * plan .seconds ≤ length (now s)) ⌝ }
+    requires { ⌜ (ctabPlace First (plan .ctabs) (i + 1) ≤ length (now s)) × ((plan .cntts + 10 * plan .seconds ≤ length (now s)) × (plan .seconds ≤ 16)) ⌝ }
     ensures { λ r. ⌜ r ≡ recordAt First (now (s .entry)) (plan .ctabs) (plan .cntts) (plan .seconds) i ⌝ }
 {
     let at = plan.ctabs + CTAB_STRIDE * i + 8;
-    let second = second_at(s, plan.cntts, plan.seconds, s[at]);
-    read_record::held::record_of(&s[at..at + HELD], second)
+    let j = cntt_of(s, plan.cntts, plan.seconds, s[at]);
+    let second = second_at(s, plan.cntts, plan.seconds, j);
+    let position = position_at(plan.seconds, j);
+    read_record::held::record_of(&s[at..at + HELD], second, position)
 }
 
 // The answer of a plan.

@@ -5,9 +5,9 @@ use check::same;
 use layout::record::Record;
 use layout::record::SecondTable;
 
-// The record that lent tables hold before a call: every byte EEH, no Cntt.
+// The record that lent tables hold before a call: every byte EEH, no Cntt, and the position EEH, too.
 fn blank() -> Record {
-    record_of([0xEE; 26], SecondTable::Absent)
+    record_of([0xEE; 26], SecondTable::Absent, 0xEE)
 }
 
 pub fn blank_table() -> [Record; 32] {
@@ -19,6 +19,9 @@ fn is_blank(r: Record) -> bool {
     let second = r.second;
     let bytes = bytes_of(r);
     if !same(&bytes, &[0xEEu8; 26]) {
+        return false;
+    }
+    if r.position != 0xEE {
         return false;
     }
     match second {

@@ -9,25 +9,27 @@ use layout::record::SecondTable;
 use script_text::print::OUT;
 use script_text::print::put;
 use script_text::print::put_bytes;
+use script_text::print::put_digits;
 use script_words::hex::byte_of;
+use script_words::hex::position_of;
 use script_words::hex::store_pairs;
 
-// The Cntt value of a REC: absent where it is no pair.
-fn second_of(part: &[u8]) -> SecondTable {
-    if part.len() < 2 {
+// The Cntt value of a REC: its two hex digits, or `-` for absent.
+fn second_of(high: u8, low: u8) -> SecondTable {
+    if high == b'-' {
         return SecondTable::Absent;
     }
-    SecondTable::Value(byte_of(part[0], part[1]))
+    SecondTable::Value(byte_of(high, low))
 }
 
 // The record of a REC. Where the word is too short for one, every byte is 0.
 pub fn record_from(word: &[u8]) -> Record {
     let mut bytes = [0u8; 26];
-    if word.len() < 54 {
-        return record_of(bytes, SecondTable::Absent);
+    if word.len() < 56 {
+        return record_of(bytes, SecondTable::Absent, 0);
     }
     store_pairs(word, 26, &mut bytes, 0);
-    record_of(bytes, second_of(&word[53..]))
+    record_of(bytes, second_of(word[53], word[54]), position_of(word))
 }
 
 // Prints a record as REC.
@@ -36,8 +38,10 @@ pub fn put_record(out: &mut [u8; OUT], used: usize, r: Record) -> usize {
     let bytes = bytes_of(r);
     let told = put_bytes(out, used, &bytes);
     let parted = put(out, told, b':');
-    match second {
+    let after = match second {
         SecondTable::Absent => put(out, parted, b'-'),
         SecondTable::Value(v) => put_bytes(out, parted, &[v]),
-    }
+    };
+    let last = put(out, after, b':');
+    put_digits(out, last, r.position as usize)
 }

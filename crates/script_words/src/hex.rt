@@ -1,6 +1,8 @@
-// Pairs of hex digits in lower case, and REC: 52 hex digits for bytes 0-25 of a record, `:`, then the Cntt value as two hex digits or `-` for absent.
+// Pairs of hex digits in lower case, and REC: 52 hex digits for bytes 0-25 of a record, `:`, the Cntt value as two hex digits or `-` for absent, `:`, and the Cntt's position in decimal.
 ghost use Prim.Native.Nat.{_+_, _*_, _≤_};
 ghost use lib.ListN.{length};
+use crate::word::byte;
+use crate::word::number;
 
 // The value of a hex digit, or 16.
 fn hex_value(b: u8) -> u8 {
@@ -36,24 +38,47 @@ pub fn is_hex(s: &[u8]) -> bool {
     true
 }
 
-// Whether a word is REC.
-pub fn is_rec(word: &[u8]) -> bool {
-    if word.len() < 54 {
-        return false;
+// Where the position of a REC begins, behind the Cntt and its `:`, or 0 where it has no Cntt part.
+fn position_at(word: &[u8]) -> usize
+    ensures { λ at. ⌜ at ≤ length (now (word .entry)) ⌝ }
+{
+    if word.len() < 56 {
+        return 0;
     }
     if word[52] != b':' {
+        return 0;
+    }
+    if word[53] == b'-' {
+        if word[54] == b':' {
+            return 55;
+        }
+        return 0;
+    }
+    if word[55] != b':' {
+        return 0;
+    }
+    if is_hex(&word[53..55]) {
+        return 56;
+    }
+    0
+}
+
+// Whether a word is REC.
+pub fn is_rec(word: &[u8]) -> bool {
+    let at = position_at(word);
+    if at < 52 {
         return false;
     }
     if !is_hex(&word[0..52]) {
         return false;
     }
-    if word.len() == 54 {
-        return word[53] == b'-';
-    }
-    if word.len() > 55 {
-        return false;
-    }
-    is_hex(&word[53..])
+    number(&word[at..]) <= 255
+}
+
+// The position of a REC.
+pub fn position_of(word: &[u8]) -> u8 {
+    let at = position_at(word);
+    byte(number(&word[at..]))
 }
 
 // Puts the bytes of the first `count` pairs into the room from `to` on.

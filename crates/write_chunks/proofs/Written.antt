@@ -12,13 +12,13 @@ use Rattle.layout.specs.Bytes.{CSEG, Sdec, four, chunk}
 use Rattle.layout.specs.Answers.{numberOf, placeOf, valueOr, lentAfter, measured}
 use Rattle.layout.specs.Edit.{replaced}
 use Rattle.layout.specs.Lists.{rows}
-use Rattle.layout.specs.Write.{ctabBytes, payloadBytes, groupBytes, groupFrom}
+use Rattle.layout.specs.Write.{ctabBytes, cnttsBytes, payloadBytes, groupBytes, groupFrom}
 use Rattle.layout.specs.Promises.{GroupWritten}
 use Rattle.layout.proofs.Replaced.{replaced-start, replaced-length, replaced-twice}
 use Rattle.write_plan.specs.declared.Plan.{Plan}
 use Rattle.write_plan.specs.Chunks.{cnttsDown, framed}
 use Rattle.write_plan.specs.Checking.{noPlan, planOf, measuredBy, startPlace, startBytes}
-use Rattle.write_plan.proofs.Down.{cnttOf, cntts-length}
+use Rattle.write_plan.proofs.Down.{cntts-length}
 use Rattle.write_plan.proofs.Planning.{ctabs-length, group-length, NotPlanned, Planned, plan-says}
 
 -- what is so of every plan: each step has the room that it asks for
@@ -36,7 +36,7 @@ module _ (text : List ℕ) (rs : List Record) (room number place : ℕ) (z : num
 abbrev accepting : List ℕ → List Record → ℕ → ℕ → List ℕ → Plan
 accepting text rs count seconds cntts = record { number = 0; place = 0; records = count; length = length (groupBytes (groupFrom text rs count)); seconds = seconds; cntts = cntts }
 
-module _ (text : List ℕ) (rs : List Record) (count : ℕ) (h : count ≤ length rs) (seconds : ℕ) (cntts : List ℕ) (down : cnttsDown cntts seconds ≡ flatMap cnttOf (take count rs)) where
+module _ (text : List ℕ) (rs : List Record) (count : ℕ) (h : count ≤ length rs) (seconds : ℕ) (cntts : List ℕ) (down : cnttsDown cntts seconds ≡ cnttsBytes (take count rs)) where
   whole-length : length (groupBytes (groupFrom text rs count)) ≡ 16 + length text + 35 * count + 10 * seconds
   whole-length = omega (arith, group-length text (take count rs), length-take-le count rs h, ap length down, cntts-length cntts seconds)
 
@@ -83,7 +83,7 @@ module _ (text : List ℕ) (rs : List Record) (out : List ℕ) where
   unfolding noPlan framed startPlace startBytes replaced cnttsDown rows flatMap
   none-written number place z = rw (ne-eqb number 0 z)
 
-  module _ (count : ℕ) (h : count ≤ length rs) (seconds : ℕ) (cntts : List ℕ) (down : cnttsDown cntts seconds ≡ flatMap cnttOf (take count rs)) (room : length (groupBytes (groupFrom text rs count)) ≤ length out) where
+  module _ (count : ℕ) (h : count ≤ length rs) (seconds : ℕ) (cntts : List ℕ) (down : cnttsDown cntts seconds ≡ cnttsBytes (take count rs)) (room : length (groupBytes (groupFrom text rs count)) ≤ length out) where
     abbrev front : List ℕ
     front = CSEG ++ (four (length (groupBytes (groupFrom text rs count)) - 8) ++ chunk Sdec text)
 
@@ -98,14 +98,14 @@ module _ (text : List ℕ) (rs : List Record) (out : List ℕ) where
     unfolding groupBytes chunk four
     ahead = omega arith
 
-    inside-is : CSEG ++ (four (length (payloadBytes (groupFrom text rs count))) ++ (chunk Sdec text ++ (ctabs ++ flatMap cnttOf (take count rs)))) ≡ groupBytes (groupFrom text rs count)
+    inside-is : CSEG ++ (four (length (payloadBytes (groupFrom text rs count))) ++ (chunk Sdec text ++ (ctabs ++ cnttsBytes (take count rs)))) ≡ groupBytes (groupFrom text rs count)
     unfolding groupBytes payloadBytes chunk
     inside-is = refl
 
     group-is : front ++ (ctabs ++ cnttsDown cntts seconds) ≡ groupBytes (groupFrom text rs count)
     group-is =
         let sized = four (length (payloadBytes (groupFrom text rs count))) in
-        let behind = ctabs ++ flatMap cnttOf (take count rs) in
+        let behind = ctabs ++ cnttsBytes (take count rs) in
         rw (ahead, down) (append-assoc CSEG (sized ++ chunk Sdec text) behind ∙ (ap (λ (t : List ℕ). CSEG ++ t) (append-assoc sized (chunk Sdec text) behind) ∙ inside-is))
 
     whole-written : buffer text rs out (accepting text rs count seconds cntts) ≡ groupBytes (groupFrom text rs count) ++ drop (length (groupBytes (groupFrom text rs count))) out

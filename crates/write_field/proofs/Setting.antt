@@ -24,6 +24,6 @@ module _ (r : Record) (index value : ℕ) where
     set-out e = rw (lt-leb 26 index l, unruled-first index (ruleAt (bytesOf r) 0 index) 0 value, e)
 
     pub set-in : (b : List ℕ) → outOf First index 0 value ≡ false → b ≡ bytesOf r
-        → changed r (fieldSet r index value) ≡ record { number = 0; place = 0; held = recordOf (set b index value) (r .second) }
+        → changed r (fieldSet r index value) ≡ record { number = 0; place = 0; held = recordOf (set b index value) (r .second) (r .position) }
     unfolding fieldSet changed numberOf placeOf valueOr
     set-in b e q = rw (lt-leb 26 index l, unruled-first index (ruleAt (bytesOf r) 0 index) 0 value, e, q)

@@ -10,7 +10,7 @@ use read_record::held::bytes_of;
 use read_record::held::edition_of;
 use read_record::held::record_of;
 
-// The record with one byte set; the Cntt is kept.
+// The record with one byte set; the Cntt and its position are kept.
 pub fn set_field(r: Record, index: usize, value: u8) -> Changed
     ensures { λ c. ⌜ FieldSet r index value c ⌝ }
 {
@@ -32,7 +32,7 @@ pub fn set_field(r: Record, index: usize, value: u8) -> Changed
     let second = r.second;
     let mut b = bytes_of(r);
     b[index] = value;
-    let held = record_of(&b, second);
+    let held = record_of(&b, second, r.position);
     Changed {
         number: 0,
         place: 0,

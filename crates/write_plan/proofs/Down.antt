@@ -1,38 +1,90 @@
--- The Cntts laid down, read back in order, are those of the records: the way out of each choice, one Cntt more, and one record more.
-use Prim.Native.Nat.{ℕ, zero, suc, _+_, _*_, _≤_, _<_}
+-- One Cntt laid down: whether its position is free, how many Cntts there must be then, and what is laid down after it. And those laid down, read one after the other.
+use Prim.Native.Nat.{ℕ, zero, suc, _+_, _*_, _-_, _≤_, _<_}
 use mathlib.Core.Path.{_≡_, refl, sym, ap, ap₂, _∙_}
-use mathlib.Core.List.{List, [], _∷_, _++_, flatMap, append-nil}
+use mathlib.Core.Bool.{Bool, true, false, _&&_, _||_, true≢false}
+use mathlib.Core.List.{List, [], _++_, flatMap}
 use native.Mathlib.Omega.{arith}
+use native.Mathlib.Decide.{decLt}
 use native.Mathlib.Numerals.{add-one}
-use lib.ListN.{length, getD, take, set, length-append, length-set}
-use lib.Seq.{take-suc, getD-set-same, getD-set-other, lt-length-set}
-use borrow.Author.Tests.{lt-ltb, le-ltb}
-use Rattle.layout.specs.declared.record.Record.{Record}
+use lib.Dec.{ltb, leb, eqb}
+use lib.ListN.{length, getD, set, length-append}
+use borrow.Author.Tests.{lt-ltb, le-ltb, le-leb, lt-leb, eq-eqb, ne-eqb, ltb-true, leb-true, eqb-true}
 use Rattle.layout.specs.declared.record.SecondTable.{SecondTable}
 use Rattle.layout.specs.declared.record.SecondTable.the-variants.{Absent, Value}
-use Rattle.layout.specs.Bytes.{Cntt, four, chunk}
+use Rattle.layout.specs.Bytes.{four, chunk}
 use Rattle.layout.specs.Lists.{rows}
-use Rattle.layout.specs.Records.{blank, channelOf}
-use Rattle.layout.specs.Write.{cnttBytes}
 use Rattle.layout.proofs.Lists.{rows-last, flatMap-last}
-use Rattle.write_plan.specs.Checking.{cnttCount, laidDown}
+use Rattle.write_plan.specs.Checking.{free, laidDown, claimed, larger}
 use Rattle.write_plan.specs.Chunks.{cnttDown, cnttsDown}
 
--- ---- one Cntt laid down
+-- ---- a position is free
 
-module _ (c : List ℕ) (k channel : ℕ) (s : SecondTable) where
-  pub down-none : s ≡ Absent → c ≡ laidDown c k channel s
-  unfolding laidDown
-  down-none h = sym (rw h)
+module _ (c : List ℕ) (p : ℕ) where
+  pub free-none : p ≡ 0 → free c p ≡ false
+  unfolding free
+  free-none h = rw (le-ltb 0 p (omega arith))
+
+  pub free-over : 16 < p → free c p ≡ false
+  unfolding free
+  free-over h = rw (lt-ltb 0 p (omega arith), lt-leb p 16 h)
+
+  pub free-there : 0 < p → p ≤ 16 → free c p ≡ eqb (getD c (2 * p - 1) 0) 0
+  unfolding free
+  free-there h l = rw (lt-ltb 0 p h, le-leb p 16 l)
+
+  pub free-is : free c p ≡ true → (0 < p) × (p ≤ 16) × (getD c (2 * p - 1) 0 ≡ 0)
+  unfolding free
+  free-is e = go (ltb 0 p) (leb p 16) (eqb (getD c (2 * p - 1) 0) 0) refl refl refl e
+    where
+      go : (a b d : Bool) → ltb 0 p ≡ a → leb p 16 ≡ b → eqb (getD c (2 * p - 1) 0) 0 ≡ d → a && (b && d) ≡ true → (0 < p) × (p ≤ 16) × (getD c (2 * p - 1) 0 ≡ 0)
+      go true true true x y z q = (ltb-true 0 p x, leb-true p 16 y, eqb-true _ _ z)
+      go true true false x y z q = absurd (true≢false (sym q))
+      go true false d x y z q = absurd (true≢false (sym q))
+      go false b d x y z q = absurd (true≢false (sym q))
+
+-- ---- a Cntt laid down
+
+-- how many Cntts a record claims, and the Cntts laid down after it
+abbrev pub LaidDown : List ℕ → ℕ → ℕ → SecondTable → ℕ → List ℕ → Type 0
+LaidDown c p channel s claim d = (claim ≡ claimed c p s) × (d ≡ laidDown c p channel s)
+
+module _ (c : List ℕ) (p channel : ℕ) (s : SecondTable) where
+  module _ (h : s ≡ Absent) where
+    pub down-none : p ≡ 0 → LaidDown c p channel s 0 c
+    unfolding claimed laidDown
+    down-none z = (sym (rw (h, eq-eqb p 0 z)), sym (rw h))
+
+    pub down-lost : (p ≡ 0 → ⊥) → LaidDown c p channel s 17 c
+    unfolding claimed laidDown
+    down-lost z = (sym (rw (h, ne-eqb p 0 z)), sym (rw h))
 
   module _ (v : ℕ) (h : s ≡ Value v) where
-    pub down-over : 16 ≤ k → c ≡ laidDown c k channel s
-    unfolding laidDown
-    down-over l = sym (rw (h, le-ltb k 16 l))
+    pub down-not : free c p ≡ false → LaidDown c p channel s 17 c
+    unfolding claimed laidDown
+    down-not f = (sym (rw (h, f)), sym (rw (h, f)))
 
-    pub down-there : k < 16 → set (set c (2 * k) channel) (2 * k + 1) v ≡ laidDown c k channel s
-    unfolding laidDown
-    down-there l = sym (rw (h, lt-ltb k 16 l))
+    pub down-there : free c p ≡ true → LaidDown c p channel s p (set (set c (2 * p - 2) channel) (2 * p - 1) v)
+    unfolding claimed laidDown
+    down-there f = (sym (rw (h, f)), sym (rw (h, f)))
+
+module _ (a b : ℕ) where
+  pub larger-second : a < b → larger a b ≡ b
+  unfolding larger
+  larger-second h = rw (lt-ltb a b h)
+
+  pub larger-first : b ≤ a → larger a b ≡ a
+  unfolding larger
+  larger-first h = rw (le-ltb a b h)
+
+  -- a number is below the larger of two where it is below one of them
+  pub below-larger : (m : ℕ) → ltb m (larger a b) ≡ ltb m b || ltb m a
+  below-larger m = go (decLt a b) (decLt m b)
+    where
+      go : Dec (a < b) → Dec (m < b) → ltb m (larger a b) ≡ ltb m b || ltb m a
+      go (yes l) (yes k) = rw (larger-second l, lt-ltb m b k)
+      go (yes l) (no k) = rw (larger-second l, le-ltb m b (omega arith)) (sym (le-ltb m a (omega arith)))
+      go (no l) (yes k) = rw (larger-first (omega arith), lt-ltb m b k) (lt-ltb m a (omega arith))
+      go (no l) (no k) = rw (larger-first (omega arith), le-ltb m b (omega arith))
 
 -- ---- the first n Cntts
 
@@ -56,73 +108,12 @@ cntts-length c (suc n) =
     let e = rw (add-one n) at (cntts-next c n) in
     omega (arith, ap length e, length-append (cnttsDown c n) (cnttDown c n), cntts-length c n, cntt-length c n)
 
-cntts-alike : (c d : List ℕ) (n : ℕ) → ((k : ℕ) → k < n → cnttDown c k ≡ cnttDown d k) → cnttsDown c n ≡ cnttsDown d n
-cntts-alike c d zero h = cntts-none c ∙ sym (cntts-none d)
-cntts-alike c d (suc n) h =
+-- they are those of the positions 1 to n
+pub cntts-alike : (c : List ℕ) (f : ℕ → List ℕ) (n : ℕ) → ((k : ℕ) → k < n → cnttDown c k ≡ f (k + 1)) → cnttsDown c n ≡ flatMap f (rows (λ k. k + 1) 0 n)
+unfolding cnttsDown rows flatMap
+cntts-alike c f zero h = refl
+cntts-alike c f (suc n) h =
     let z = rw (add-one n) at (cntts-next c n) in
-    let y = rw (add-one n) at (cntts-next d n) in
-    z ∙ (ap₂ (λ (a b : List ℕ). a ++ b) (cntts-alike c d n (λ k l. h k (omega arith))) (h n (omega arith)) ∙ sym y)
-
--- ---- one more laid down behind the first k
-
-module _ (c : List ℕ) (k channel v : ℕ) (long : length c ≡ 32) (l : k < 16) where
-  abbrev after : List ℕ
-  after = set (set c (2 * k) channel) (2 * k + 1) v
-
-  down-own : cnttDown after k ≡ cnttBytes channel (Value v)
-  unfolding cnttDown cnttBytes
-  down-own =
-      let a : getD after (2 * k) 0 ≡ channel = getD-set-other (set c (2 * k) channel) (2 * k + 1) (2 * k) v 0 (λ e. omega arith) ∙ getD-set-same c (2 * k) channel 0 (omega arith) in
-      let b : getD after (2 * k + 1) 0 ≡ v = getD-set-same (set c (2 * k) channel) (2 * k + 1) v 0 (lt-length-set c (2 * k) channel (omega arith)) in
-      ap₂ (λ (x y : ℕ). chunk Cntt (x ∷ y ∷ [])) a b
-
-  down-other : (j : ℕ) → j < k → cnttDown after j ≡ cnttDown c j
-  unfolding cnttDown
-  down-other j h =
-      let a : getD after (2 * j) 0 ≡ getD c (2 * j) 0 = getD-set-other (set c (2 * k) channel) (2 * k + 1) (2 * j) v 0 (λ e. omega arith) ∙ getD-set-other c (2 * k) (2 * j) channel 0 (λ e. omega arith) in
-      let b : getD after (2 * j + 1) 0 ≡ getD c (2 * j + 1) 0 = getD-set-other (set c (2 * k) channel) (2 * k + 1) (2 * j + 1) v 0 (λ e. omega arith) ∙ getD-set-other c (2 * k) (2 * j + 1) channel 0 (λ e. omega arith) in
-      ap₂ (λ (x y : ℕ). chunk Cntt (x ∷ y ∷ [])) a b
-
-  down-next : cnttsDown after (k + 1) ≡ cnttsDown c k ++ cnttBytes channel (Value v)
-  down-next = cntts-next after k ∙ ap₂ (λ (a b : List ℕ). a ++ b) (cntts-alike after c k down-other) down-own
-
--- ---- the Cntts of the first i records
-
-abbrev pub cnttOf : Record → List ℕ
-cnttOf r = cnttBytes (channelOf r) (r .second)
-
-pub record Down (rs : List Record) (i seconds : ℕ) (cntts : List ℕ) : Type 0 where
-  pub long : length cntts ≡ 32
-  pub few : seconds ≤ i
-  pub so : cnttsDown cntts seconds ≡ flatMap cnttOf (take i rs)
-
-pub down-start : (rs : List Record) (c : List ℕ) → length c ≡ 32 → Down rs 0 0 c
-unfolding flatMap
-down-start rs c h = record { long = h; few = omega arith; so = cntts-none c }
-
-module _ (rs : List Record) (i seconds : ℕ) (c : List ℕ) (l : i < length rs) (h : i < 16) (d : Down rs i seconds c) where
-  abbrev r : Record
-  r = getD rs i blank
-
-  more : flatMap cnttOf (take (i + 1) rs) ≡ flatMap cnttOf (take i rs) ++ cnttOf r
-  more = rw (add-one i) (ap (flatMap cnttOf) (take-suc rs i blank l) ∙ flatMap-last cnttOf (take i rs) r)
-
-  pub down-step : Down rs (i + 1) (seconds + cnttCount (r .second)) (laidDown c seconds (channelOf r) (r .second))
-  unfolding cnttCount cnttBytes
-  down-step = go (r .second) refl
-    where
-      go : (t : SecondTable) → r .second ≡ t → Down rs (i + 1) (seconds + cnttCount t) (laidDown c seconds (channelOf r) t)
-      go Absent e =
-          let z : seconds + 0 ≡ seconds = omega arith in
-          rw (z, ← (down-none c seconds (channelOf r) Absent refl)) (record {
-            long = d .long;
-            few = omega (arith, d .few);
-            so = d .so ∙ sym (more ∙ rw e (append-nil (flatMap cnttOf (take i rs))));
-          })
-      go (Value v) e =
-          let z : seconds < 16 = omega (arith, d .few) in
-          rw (← (down-there c seconds (channelOf r) (Value v) v refl z)) (record {
-            long = length-set (set c (2 * seconds) (channelOf r)) (2 * seconds + 1) v ∙ (length-set c (2 * seconds) (channelOf r) ∙ d .long);
-            few = omega (arith, d .few);
-            so = down-next c seconds (channelOf r) v (d .long) z ∙ (ap (λ (x : List ℕ). x ++ cnttBytes (channelOf r) (Value v)) (d .so) ∙ sym (more ∙ rw e));
-          })
+    let y = ap (flatMap f) (rows-last (λ (k : ℕ). k + 1) 0 n) ∙ flatMap-last f (rows (λ k. k + 1) 0 n) (0 + n + 1) in
+    let w : 0 + n + 1 ≡ n + 1 = omega arith in
+    z ∙ (ap₂ (λ (a b : List ℕ). a ++ b) (cntts-alike c f n (λ k l. h k (omega arith))) (h n (omega arith)) ∙ sym (rw w at y))

@@ -8,8 +8,8 @@ use native.Mathlib.Omega.{arith}
 use native.Mathlib.Decide.{decLt}
 use lib.Dec.{ltb}
 use lib.ListN.{length, getD, take, length-append}
-use lib.Seq.{getD-take, length-take-le, take-all}
-use borrow.Author.Tests.{lt-ltb, le-ltb}
+use lib.Seq.{getD-take, length-take-le}
+use borrow.Author.Tests.{lt-ltb, le-ltb, ltb-true, ltb-false}
 use Rattle.layout.specs.declared.record.Record.{Record}
 use Rattle.layout.specs.declared.turn.Run.the-variants.{Ended}
 use Rattle.layout.specs.Scan.{run}
@@ -17,7 +17,7 @@ use Rattle.layout.specs.Bytes.{four, chunk}
 use Rattle.layout.specs.Answers.{refused, granted, afterRun}
 use Rattle.layout.specs.Records.{blank, bytesOf, channelOf, fileBytes}
 use Rattle.layout.specs.Sdec.{soundText}
-use Rattle.layout.specs.Write.{ctabBytes, payloadBytes, groupBytes, recordTurn, recordsRun, groupFrom, written}
+use Rattle.layout.specs.Write.{ctabBytes, cnttsBytes, payloadBytes, groupBytes, wrongPositions, recordTurn, recordsRun, groupFrom, written}
 use Rattle.layout.proofs.Runs.{run-end}
 use Rattle.layout.proofs.Sixteen.{at-most-sixteen}
 use Rattle.write_plan.specs.declared.Taken.{Taken}
@@ -25,8 +25,9 @@ use Rattle.write_plan.specs.declared.Plan.{Plan}
 use Rattle.write_plan.specs.Chunks.{cnttsDown}
 use Rattle.write_plan.specs.Checking.{noCntts, refusedAt, taken, takenAt, noPlan, planned, planOf}
 use Rattle.write_plan.proofs.Seen.{seen-start}
-use Rattle.write_plan.proofs.Looking.{begun-many, begun-bad, begun-sound, planned-not, planned-short, planned-fits}
-use Rattle.write_plan.proofs.Down.{cnttOf, down-start, cntts-length}
+use Rattle.write_plan.proofs.Looking.{begun-many, begun-bad, begun-sound, planned-not, planned-wrong, planned-short, planned-fits}
+use Rattle.write_plan.proofs.Down.{cntts-length}
+use Rattle.write_plan.proofs.Slots.{down-start, down-few, down-wrong, down-is}
 use Rattle.write_plan.proofs.Running.{Going, Halted, going}
 
 -- ---- the group's length
@@ -40,11 +41,11 @@ unfolding flatMap
 ctabs-length [] = refl
 ctabs-length (r ∷ rs) = omega (arith, length-append (ctabBytes r) (flatMap ctabBytes rs), ctab-length r, ctabs-length rs)
 
-pub group-length : (text : List ℕ) (rs : List Record) → length (groupBytes (record { text = text; records = rs })) ≡ 16 + length text + 35 * length rs + length (flatMap cnttOf rs)
+pub group-length : (text : List ℕ) (rs : List Record) → length (groupBytes (record { text = text; records = rs })) ≡ 16 + length text + 35 * length rs + length (cnttsBytes rs)
 unfolding groupBytes payloadBytes chunk four
 group-length text rs =
-    let a = length-append (flatMap ctabBytes rs) (flatMap cnttOf rs) in
-    let b = length-append text (flatMap ctabBytes rs ++ flatMap cnttOf rs) in
+    let a = length-append (flatMap ctabBytes rs) (cnttsBytes rs) in
+    let b = length-append text (flatMap ctabBytes rs ++ cnttsBytes rs) in
     omega (arith, a, b, ctabs-length rs)
 
 -- ---- what a plan says
@@ -64,7 +65,7 @@ pub record Planned (text : List ℕ) (table : List Record) (count room : ℕ) (p
   pub plan : p ≡ record { number = 0; place = 0; records = count; length = length (groupBytes (groupFrom text table count)); seconds = seconds; cntts = cntts }
   pub within : count ≤ length table
   pub few : seconds ≤ 16
-  pub down : cnttsDown cntts seconds ≡ flatMap cnttOf (take count table)
+  pub down : cnttsDown cntts seconds ≡ cnttsBytes (take count table)
   pub fits : length (groupBytes (groupFrom text table count)) ≤ room
   pub answer : written text table count room ≡ granted (groupBytes (groupFrom text table count))
 
@@ -95,7 +96,7 @@ module _ (text : List ℕ) (table : List Record) (count room : ℕ) where
     rs = take count table
 
     abbrev begins : Taken
-    begins = record { checked = record { number = 0; place = 0; records = count; length = 16 + length text; seen = 0; seconds = 0 }; cntts = noCntts }
+    begins = record { checked = record { number = 0; place = 0; records = count; length = 16 + length text; seen = 0; seconds = 0; reach = 0 }; cntts = noCntts }
 
     abbrev ends : Taken
     ends = takenAt begins rs count
@@ -108,7 +109,7 @@ module _ (text : List ℕ) (table : List Record) (count room : ℕ) where
     looks = rw (begun-sound text (length table) count h f) (ap (λ (t : Taken). planned t room) (looked-take begins table count count (omega arith)))
 
     answers : written text table count room
-        ≡ afterRun (run (recordTurn rs) 0 (length rs)) (λ n. cond (ltb room (length (groupBytes (groupFrom text table count)))) (refused 14 0) (granted (groupBytes (groupFrom text table count))))
+        ≡ afterRun (run (recordTurn rs) 0 (length rs)) (λ n. cond (wrongPositions rs) (refused 18 0) (cond (ltb room (length (groupBytes (groupFrom text table count)))) (refused 14 0) (granted (groupBytes (groupFrom text table count)))))
     unfolding written recordsRun
     answers = rw (le-ltb (length table) count h, f)
 
@@ -124,41 +125,70 @@ module _ (text : List ℕ) (table : List Record) (count room : ℕ) where
         })
 
     module _ (g : Going rs (16 + length text) count ends) where
-      -- what is laid down, read back in order, is the Cntts of the records
-      down : cnttsDown (ends .cntts) (ends .checked .seconds) ≡ flatMap cnttOf rs
-      down = g .down .so ∙ ap (flatMap cnttOf) (take-all count rs (omega (arith, long)))
-
-      size : ends .checked .length ≡ length (groupBytes (groupFrom text table count))
-      size = omega (arith, g .size, group-length text rs, long, ap length down, cntts-length (ends .cntts) (ends .checked .seconds))
+      few : count ≤ 16
+      few = at-most-sixteen _ count (g .channels)
 
       ended : run (recordTurn rs) 0 (length rs) ≡ Ended count
       ended = g .rest ∙ run-end (recordTurn rs) count (length rs) long
 
-      whole : Says (planOf text table count room)
+      wrong : ltb (ends .checked .seconds) (ends .checked .reach) ≡ wrongPositions rs
+      wrong = down-wrong rs count _ _ _ long few (g .down)
+
+      -- positions are wrong
+      misplaced : wrongPositions rs ≡ true → Says (planOf text table count room)
       unfolding afterRun
-      whole = go (decLt room (length (groupBytes (groupFrom text table count))))
+      misplaced e =
+          inl (record {
+            number = 18;
+            place = 0;
+            refusal = omega arith;
+            plan = looks ∙ planned-wrong ends room (g .number) (ltb-true _ _ (wrong ∙ e));
+            answer = answers ∙ rw (ended, afterRun) (rw e);
+          })
+
+      -- they are right
+      module _ (e : wrongPositions rs ≡ false) where
+        right : ends .checked .reach ≤ ends .checked .seconds
+        right = ltb-false _ _ (wrong ∙ e)
+
+        down : cnttsDown (ends .cntts) (ends .checked .seconds) ≡ cnttsBytes rs
+        down = down-is rs count _ _ _ long few (g .down) e
+
+        size : ends .checked .length ≡ length (groupBytes (groupFrom text table count))
+        size = omega (arith, g .size, group-length text rs, long, ap length down, cntts-length (ends .cntts) (ends .checked .seconds))
+
+        placed : Says (planOf text table count room)
+        unfolding afterRun
+        placed = go (decLt room (length (groupBytes (groupFrom text table count))))
+          where
+            go : Dec (room < length (groupBytes (groupFrom text table count))) → Says (planOf text table count room)
+            go (yes l) =
+                inl (record {
+                  number = 14;
+                  place = 0;
+                  refusal = omega arith;
+                  plan = looks ∙ planned-short ends room (g .number) right (rw size l);
+                  answer = answers ∙ rw (ended, afterRun) (rw (e, lt-ltb room (length (groupBytes (groupFrom text table count))) l));
+                })
+            go (no l) =
+                let fits : length (groupBytes (groupFrom text table count)) ≤ room = omega arith in
+                inr (record {
+                  plan = looks ∙ (planned-fits ends room (g .number) right (rw size fits) ∙ rw (g .records ∙ long, size));
+                  seconds = ends .checked .seconds;
+                  cntts = ends .cntts;
+                  within = h;
+                  few = down-few rs count _ _ _ long few (g .down);
+                  down = down;
+                  fits = fits;
+                  answer = answers ∙ rw (ended, afterRun) (rw (e, le-ltb room (length (groupBytes (groupFrom text table count))) fits));
+                })
+
+      whole : Says (planOf text table count room)
+      whole = go (wrongPositions rs) refl
         where
-          go : Dec (room < length (groupBytes (groupFrom text table count))) → Says (planOf text table count room)
-          go (yes l) =
-              inl (record {
-                number = 14;
-                place = 0;
-                refusal = omega arith;
-                plan = looks ∙ planned-short ends room (g .number) (rw size l);
-                answer = answers ∙ rw (ended, afterRun) (rw (lt-ltb room (length (groupBytes (groupFrom text table count))) l));
-              })
-          go (no l) =
-              let fits : length (groupBytes (groupFrom text table count)) ≤ room = omega arith in
-              inr (record {
-                plan = looks ∙ (planned-fits ends room (g .number) (rw size fits) ∙ rw (g .records ∙ long, size));
-                seconds = ends .checked .seconds;
-                cntts = ends .cntts;
-                within = h;
-                few = omega (arith, g .down .few, at-most-sixteen _ count (g .channels));
-                down = down;
-                fits = fits;
-                answer = answers ∙ rw (ended, afterRun) (rw (le-ltb room (length (groupBytes (groupFrom text table count))) fits));
-              })
+          go : (t : Bool) → wrongPositions rs ≡ t → Says (planOf text table count room)
+          go true e = misplaced e
+          go false e = placed e
 
     starts : Going rs (16 + length text) 0 begins
     starts =
@@ -167,7 +197,7 @@ module _ (text : List ℕ) (table : List Record) (count room : ℕ) where
           records = sym long;
           seen = seen-start (λ j. channelOf (getD rs j blank));
           channels = record { low = λ i l. absurd (omega arith); apart = λ i j k l. absurd (omega arith) };
-          down = down-start rs noCntts refl;
+          down = down-start rs;
           size = omega arith;
           rest = refl;
         }

@@ -18,15 +18,16 @@ use Rattle.layout.specs.declared.turn.Run.the-variants.{Stopped}
 use Rattle.layout.specs.Scan.{first, run}
 use Rattle.layout.specs.Plays.{bit}
 use Rattle.layout.specs.Records.{blank, channelOf, firstBad}
-use Rattle.layout.specs.Write.{recordOn, recordTurn}
+use Rattle.layout.specs.Write.{cnttCount, recordOn, recordTurn}
 use Rattle.layout.proofs.Runs.{run-stop, run-more}
 use Rattle.layout.proofs.Scans.{first-passed}
-use Rattle.layout.proofs.Sixteen.{Channels, at-most-sixteen}
+use Rattle.layout.proofs.Records.{second-good}
+use Rattle.layout.proofs.Sixteen.{Channels, one-more}
 use Rattle.write_plan.specs.declared.Checked.{Checked}
 use Rattle.write_plan.specs.declared.Taken.{Taken}
-use Rattle.write_plan.specs.Checking.{refusedAt, chunksSize, cnttCount, looked, taken, takenAt}
+use Rattle.write_plan.specs.Checking.{refusedAt, chunksSize, claimed, larger, looked, taken, takenAt}
 use Rattle.write_plan.proofs.Seen.{Seen, seen-next}
-use Rattle.write_plan.proofs.Down.{Down, down-step}
+use Rattle.write_plan.proofs.Slots.{Down, down-step}
 use Rattle.write_plan.proofs.Looking.{channel-low, sizes-is, looked-stays, looked-bad, looked-again, looked-on, after-on}
 
 -- ---- a turn of the definition's run
@@ -47,21 +48,6 @@ module _ (rs : List Record) (i : ℕ) where
   unfolding recordTurn recordOn
   turn-more h e = rw (le-ltb (firstBad r) 26 h, e)
 
--- one more source channel, below sixteen and fresh
-channels-next : (chan : ℕ → ℕ) (n : ℕ) → Channels chan n → chan n < 16 → ltb (first (λ j. eqb (chan j) (chan n)) 0 n) n ≡ false → Channels chan (n + 1)
-channels-next chan n a low fresh = record { low = λ i h. below i h (decLt i n); apart = λ i j h l. other i j h l (decLt j n) }
-  where
-    below : (i : ℕ) → i < n + 1 → Dec (i < n) → chan i < 16
-    below i h (yes d) = a .low i d
-    below i h (no d) = let q : i ≡ n = omega arith in rw q low
-
-    other : (i j : ℕ) → i < j → j < n + 1 → Dec (j < n) → chan i ≡ chan j → ⊥
-    other i j h l (yes d) = a .apart i j h d
-    other i j h l (no d) =
-        let q : j ≡ n = omega arith in
-        let z = ltb-false (first (λ k. eqb (chan k) (chan n)) 0 n) n fresh in
-        rw q (eqb-false (chan i) (chan n) (first-passed (λ k. eqb (chan k) (chan n)) n i (omega arith)))
-
 -- ---- what is so before record number i
 
 module _ (rs : List Record) where
@@ -80,7 +66,7 @@ module _ (rs : List Record) where
     pub records : t .checked .records ≡ n
     pub seen : Seen chan i (t .checked .seen)
     pub channels : Channels chan i
-    pub down : Down rs i (t .checked .seconds) (t .cntts)
+    pub down : Down rs i (t .checked .seconds) (t .checked .reach) (t .cntts)
     pub size : t .checked .length ≡ start + 35 * i + 10 * t .checked .seconds
     pub rest : run turn 0 n ≡ run turn i n
 
@@ -89,42 +75,46 @@ module _ (rs : List Record) where
     pub number : x .number ≡ 0 → ⊥
     pub stopped : run turn 0 n ≡ Stopped (x .number) (x .place)
 
-  stays : (x : Checked) (i : ℕ) (r : Record) → Halted x → Halted (looked x i r)
-  stays x i r h = rw (looked-stays x i r (h .number)) h
+  stays : (c : List ℕ) (x : Checked) (i : ℕ) (r : Record) → Halted x → Halted (looked c x i r)
+  stays c x i r h = rw (looked-stays c x i r (h .number)) h
 
   module _ (start i : ℕ) (t : Taken) (l : i < n) (g : Going start i t) where
     abbrev x : Checked
     x = t .checked
 
+    abbrev c : List ℕ
+    c = t .cntts
+
     abbrev here : Record
     here = getD rs i blank
 
-    refused : (number place : ℕ) → (number ≡ 0 → ⊥) → turn i ≡ Refused number place → looked x i here ≡ refusedAt number place → Halted (looked x i here)
+    refused : (number place : ℕ) → (number ≡ 0 → ⊥) → turn i ≡ Refused number place → looked c x i here ≡ refusedAt number place → Halted (looked c x i here)
     unfolding refusedAt
     refused number place z s e = rw e (record { number = z; stopped = g .rest ∙ run-stop turn i n number place l s })
 
-    step : Going start (i + 1) (taken t i here) ⊎ Halted (looked x i here)
+    step : Going start (i + 1) (taken t i here) ⊎ Halted (looked c x i here)
     step = go (decLt (firstBad here) 26) (bit (x .seen) (channelOf here)) refl
       where
-        go : Dec (firstBad here < 26) → (b : Bool) → bit (x .seen) (channelOf here) ≡ b → Going start (i + 1) (taken t i here) ⊎ Halted (looked x i here)
-        go (yes a) b e = inr (refused 9 (27 * i + firstBad here) (omega arith) (turn-bad rs i a) (looked-bad x i here (g .number) (firstBad here) refl a))
+        go : Dec (firstBad here < 26) → (b : Bool) → bit (x .seen) (channelOf here) ≡ b → Going start (i + 1) (taken t i here) ⊎ Halted (looked c x i here)
+        go (yes a) b e = inr (refused 9 (27 * i + firstBad here) (omega arith) (turn-bad rs i a) (looked-bad c x i here (g .number) (firstBad here) refl a))
         go (no a) true e =
             let h : 26 ≤ firstBad here = omega arith in
             let again = sym (g .seen .each (channelOf here) (channel-low here (firstBad here) refl h)) ∙ e in
-            inr (refused 10 (27 * i) (omega arith) (turn-again rs i h again) (looked-again x i here (g .number) (firstBad here) refl h e))
+            inr (refused 10 (27 * i) (omega arith) (turn-again rs i h again) (looked-again c x i here (g .number) (firstBad here) refl h e))
         go (no a) false e =
             let h : 26 ≤ firstBad here = omega arith in
             let low = channel-low here (firstBad here) refl h in
             let fresh = sym (g .seen .each (channelOf here) low) ∙ e in
-            let channels = channels-next chan i (g .channels) low fresh in
-            let few : i + 1 ≤ 16 = at-most-sixteen chan (i + 1) channels in
-            let on = looked-on x i here (g .number) (firstBad here) refl h (chunksSize (here .second)) (bitOr (x .seen) (2 ^ channelOf here)) (cnttCount (here .second)) e refl refl refl in
-            inl (rw (← (after-on (t .cntts) x i here _ _ on refl refl), on) (record {
+            let apart : (j : ℕ) → j < i → chan j ≡ chan i → ⊥ = λ j k. eqb-false (chan j) (chan i) (first-passed (λ m. eqb (chan m) (chan i)) i j (omega (arith, ltb-false (first (λ m. eqb (chan m) (chan i)) 0 i) i fresh))) in
+            let on =
+            looked-on c x i here (g .number) (firstBad here) refl h (chunksSize (here .second)) (bitOr (x .seen) (2 ^ channelOf here)) (cnttCount (here .second)) (larger (x .reach) (claimed c (here .position) (here .second)))
+            e refl refl refl refl in
+            inl (rw (← (after-on c x i here _ _ on refl refl), on) (record {
               number = refl;
               records = g .records;
               seen = seen-next chan i (channelOf here) (x .seen) (g .seen) refl;
-              channels = channels;
-              down = down-step rs i (x .seconds) (t .cntts) l (omega arith) (g .down);
+              channels = one-more chan i low apart (g .channels);
+              down = down-step rs i (x .seconds) (x .reach) c (g .down) l (second-good here h);
               size = omega (arith, g .size, sizes-is (here .second));
               rest = g .rest ∙ run-more turn i n l (turn-more rs i h fresh);
             }))
@@ -135,6 +125,6 @@ module _ (rs : List Record) where
   going start t g zero h = inl g
   going start t g (suc i) h = go (going start t g i (omega arith))
     where
-      go : Going start i (takenAt t rs i) ⊎ Halted (takenAt t rs i .checked) → Going start (suc i) (taken (takenAt t rs i) i (getD rs i blank)) ⊎ Halted (looked (takenAt t rs i .checked) i (getD rs i blank))
+      go : Going start i (takenAt t rs i) ⊎ Halted (takenAt t rs i .checked) → Going start (suc i) (taken (takenAt t rs i) i (getD rs i blank)) ⊎ Halted (looked (takenAt t rs i .cntts) (takenAt t rs i .checked) i (getD rs i blank))
       go (inl a) = rw (← (add-one i)) (step start i (takenAt t rs i) (omega arith) a)
-      go (inr b) = inr (stays (takenAt t rs i .checked) i (getD rs i blank) b)
+      go (inr b) = inr (stays (takenAt t rs i .cntts) (takenAt t rs i .checked) i (getD rs i blank) b)

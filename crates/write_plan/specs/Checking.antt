@@ -1,35 +1,36 @@
--- What the records looked at so far come to: a refusal, or which source channels they have (a bit for each), the group's length so far, and their Cntts, laid down in the order of their Ctabs.
+-- What the records looked at so far come to: a refusal, or which source channels they have (a bit for each), the group's length so far, and their Cntts, each laid down at its position.
 use Prim.Native.Nat.{ℕ, zero, suc, _+_, _*_, _-_, _^_, _<_, _≤_}
-use mathlib.Core.Bool.{cond, not}
+use mathlib.Core.Bool.{Bool, cond, not, _&&_}
 use mathlib.Core.List.{List, [], _++_}
 use lib.Bits.{bitOr}
-use lib.Dec.{ltb, eqb}
+use lib.Dec.{ltb, leb, eqb}
 use lib.ListN.{length, getD, set, replicate}
 use Rattle.layout.specs.declared.answer.Measured.{Measured}
 use Rattle.layout.specs.declared.record.Record.{Record}
 use Rattle.layout.specs.declared.record.SecondTable.{SecondTable}
 use Rattle.layout.specs.declared.record.SecondTable.the-variants.{Absent, Value}
 use Rattle.layout.specs.Bytes.{CSEG, Sdec, four, chunk}
-use Rattle.layout.specs.Refusals.{accepted, badText, outOfRange, channelAgain, noRoom, badNumber}
+use Rattle.layout.specs.Refusals.{accepted, badText, outOfRange, channelAgain, noRoom, badNumber, badPositions}
 use Rattle.layout.specs.Plays.{bit}
 use Rattle.layout.specs.declared.edition.Edition.the-variants.{First}
 use Rattle.layout.specs.Editions.{size, held}
 use Rattle.layout.specs.Records.{blank, channelOf, editionOf, firstBad}
 use Rattle.layout.specs.Sdec.{soundText}
+use Rattle.layout.specs.Write.{cnttCount}
 use Rattle.write_plan.specs.declared.Checked.{Checked}
 use Rattle.write_plan.specs.declared.Taken.{Taken}
 use Rattle.write_plan.specs.declared.Plan.{Plan}
 
 -- a refusal: no record is to be looked at
 unfoldable pub refusedAt : ℕ → ℕ → Checked
-refusedAt number place = record { number = number; place = place; records = 0; length = 0; seen = 0; seconds = 0 }
+refusedAt number place = record { number = number; place = place; records = 0; length = 0; seen = 0; seconds = 0; reach = 0 }
 
 -- before the first of the records of a lent table of so many: 16, then 8
 unfoldable pub firstChecked : List ℕ → ℕ → ℕ → Checked
 firstChecked text lent count =
     cond (ltb lent count) (refusedAt badNumber 0)
     (cond (not (soundText text)) (refusedAt badText 0)
-    (record { number = accepted; place = 0; records = count; length = 16 + length text; seen = 0; seconds = 0 }))
+    (record { number = accepted; place = 0; records = count; length = 16 + length text; seen = 0; seconds = 0; reach = 0 }))
 
 -- no Cntt laid down
 abbrev pub noCntts : List ℕ
@@ -43,16 +44,30 @@ unfoldable pub chunksSize : SecondTable → ℕ
 chunksSize Absent = 8 + size First
 chunksSize (Value v) = 8 + size First + 10
 
--- how many Cntts a record has
-unfoldable pub cnttCount : SecondTable → ℕ
-cnttCount Absent = 0
-cnttCount (Value v) = 1
+-- ---- the Cntts laid down: that of position p, from 1 to 16, has its channel at 2 * p - 2 and its value, which is never 0, behind it
 
--- the Cntt of a record laid down with those before: that of number k, from 0 to 15, has its channel at 2 * k and its value behind it
+-- a position is 1 to 16, and nothing is laid down there
+unfoldable pub free : List ℕ → ℕ → Bool
+free cntts position = ltb 0 position && (leb position 16 && eqb (getD cntts (2 * position - 1) 0) 0)
+
+-- the Cntt of a record laid down with those before, where its position is free
 unfoldable pub laidDown : List ℕ → ℕ → ℕ → SecondTable → List ℕ
-laidDown cntts number channel Absent = cntts
-laidDown cntts number channel (Value v) =
-    cond (ltb number 16) (set (set cntts (2 * number) channel) (2 * number + 1) v) cntts
+laidDown cntts position channel Absent = cntts
+laidDown cntts position channel (Value v) =
+    cond (free cntts position) (set (set cntts (2 * position - 2) channel) (2 * position - 1) v) cntts
+
+-- more Cntts than a group has
+abbrev pub never : ℕ
+never = 17
+
+-- how many Cntts there must be for a record's position to be right: as many as its number, or more than a group has where it is wrong however many follow
+unfoldable pub claimed : List ℕ → ℕ → SecondTable → ℕ
+claimed cntts position Absent = cond (eqb position 0) 0 never
+claimed cntts position (Value v) = cond (free cntts position) position never
+
+-- the larger of two
+unfoldable pub larger : ℕ → ℕ → ℕ
+larger a b = cond (ltb a b) b a
 
 -- more records than any memory lends: a slice has fewer than 2^63 bytes, and a record or a row takes 28 of them or more
 abbrev pub recordsNever : ℕ
@@ -63,8 +78,8 @@ abbrev pub Looking : Checked → ℕ → Type 0
 Looking x i = (i < recordsNever) × ((x .length ≤ 271 + 45 * i) × (x .seconds ≤ i))
 
 -- record number i looked at: 9, then 10; a refusal stays
-unfoldable pub looked : Checked → ℕ → Record → Checked
-looked x i r =
+unfoldable pub looked : List ℕ → Checked → ℕ → Record → Checked
+looked cntts x i r =
     cond (not (eqb (x .number) accepted)) x
     (cond (ltb (firstBad r) (held (editionOf r))) (refusedAt outOfRange (size (editionOf r) * i + firstBad r))
     (cond (bit (x .seen) (channelOf r)) (refusedAt channelAgain (size (editionOf r) * i))
@@ -75,15 +90,16 @@ looked x i r =
       length = x .length + chunksSize (r .second);
       seen = bitOr (x .seen) (2 ^ channelOf r);
       seconds = x .seconds + cnttCount (r .second);
+      reach = larger (x .reach) (claimed cntts (r .position) (r .second));
     })))
 
--- the Cntts laid down after it: where it is accepted, its own behind those before
+-- the Cntts laid down after it: where it is accepted, its own at its position
 unfoldable pub laidAfter : List ℕ → Checked → ℕ → Record → List ℕ
-laidAfter cntts x i r = cond (eqb (looked x i r .number) accepted) (laidDown cntts (x .seconds) (channelOf r) (r .second)) cntts
+laidAfter cntts x i r = cond (eqb (looked cntts x i r .number) accepted) (laidDown cntts (r .position) (channelOf r) (r .second)) cntts
 
 -- both
 abbrev pub taken : Taken → ℕ → Record → Taken
-taken t i r = record { checked = looked (t .checked) i r; cntts = laidAfter (t .cntts) (t .checked) i r }
+taken t i r = record { checked = looked (t .cntts) (t .checked) i r; cntts = laidAfter (t .cntts) (t .checked) i r }
 
 -- the first n records
 unfoldable pub takenAt : Taken → List Record → ℕ → Taken
@@ -94,13 +110,14 @@ takenAt t rs (suc n) = taken (takenAt t rs n) n (getD rs n blank)
 unfoldable pub noPlan : ℕ → ℕ → Plan
 noPlan number place = record { number = number; place = place; records = 0; length = 0; seconds = 0; cntts = noCntts }
 
--- all records looked at, and so much room: 14 comes last
+-- all records looked at, and so much room: 18 where a position claims more Cntts than there are; 14 comes last
 unfoldable pub planned : Taken → ℕ → Plan
 planned t room =
     let x = t .checked in
     cond (not (eqb (x .number) accepted)) (noPlan (x .number) (x .place))
+    (cond (ltb (x .seconds) (x .reach)) (noPlan badPositions 0)
     (cond (ltb room (x .length)) (noPlan noRoom 0)
-    (record { number = accepted; place = 0; records = x .records; length = x .length; seconds = x .seconds; cntts = t .cntts }))
+    (record { number = accepted; place = 0; records = x .records; length = x .length; seconds = x .seconds; cntts = t .cntts })))
 
 -- the answer of a plan
 unfoldable pub measuredBy : Plan → Measured

@@ -1,14 +1,16 @@
-// What may be written (document 01, "Numbers of refusal": writing): 16, 8, per record 9 then 10, and room 14 last.
+// What may be written (document 01, "Numbers of refusal": writing; document 02, §1): 16, 8, per record 9 then 10, then 18, and room 14 last.
 ghost use mathlib.Core.Path.{_≡_};
 ghost use Prim.Native.Nat.{_≤_};
 ghost use lib.ListN.{length};
 ghost use Rattle.layout.specs.Records.{recordOf};
-ghost use Rattle.write_plan.specs.Checking.{refusedAt, firstChecked, begun, chunksSize, cnttCount, laidDown, Looking, looked, laidAfter, taken, noPlan, planned, measuredBy};
+ghost use Rattle.layout.specs.Write.{cnttCount};
+ghost use Rattle.write_plan.specs.Checking.{refusedAt, firstChecked, begun, chunksSize, free, laidDown, claimed, larger, Looking, looked, laidAfter, taken, noPlan, planned, measuredBy};
 use layout::answer::Measured;
 use layout::limit::CHANNELS;
 use layout::record::Record;
 use layout::record::SecondTable;
 use layout::refusal::BAD_NUMBER;
+use layout::refusal::BAD_POSITIONS;
 use layout::refusal::BAD_TEXT;
 use layout::refusal::CHANNEL_AGAIN;
 use layout::refusal::NO_ROOM;
@@ -22,7 +24,8 @@ use read_record::held::bytes_of;
 use read_record::held::first_bad_of;
 
 // What the records looked at so far come to: a refusal, or how many are to be looked at in all, the group's length with those seen,
-// which source channels they have (bit k of `seen` is set where one has channel k), and how many of them have a Cntt.
+// which source channels they have (bit k of `seen` is set where one has channel k), how many of them have a Cntt,
+// and how many Cntts there must be for their positions to be right.
 pub struct Checked {
     pub number: u8,
     pub place: usize,
@@ -30,9 +33,10 @@ pub struct Checked {
     pub length: usize,
     pub seen: u64,
     pub seconds: usize,
+    pub reach: usize,
 }
 
-// That, and their Cntts laid down: the channel of Cntt number k, from 0, at 2 * k, and its value behind it.
+// That, and their Cntts laid down: the channel of the one at position p, from 1, at 2 * p - 2, and its value behind it.
 pub struct Taken {
     pub checked: Checked,
     pub cntts: [u8; 32],
@@ -58,6 +62,7 @@ fn refused_at(number: u8, place: usize) -> Checked
         length: 0,
         seen: 0,
         seconds: 0,
+        reach: 0,
     }
 }
 
@@ -78,6 +83,7 @@ fn first_checked(text: &[u8], lent: usize, count: usize) -> Checked
         length: 16 + text.len(),
         seen: 0,
         seconds: 0,
+        reach: 0,
     }
 }
 
@@ -112,33 +118,68 @@ fn cntt_count(second: SecondTable) -> usize
     }
 }
 
-// The Cntt of a record laid down under a number, in place; a group has no more of them than source channels.
-fn lay_down(cntts: &mut [u8; 32], number: usize, channel: u8, second: SecondTable)
-    ensures { λ _. ⌜ now (cntts .exit) ≡ laidDown (now (cntts .entry)) number channel second ⌝ }
+// More Cntts than a group has: what a position that is wrong, however many follow, asks for.
+const NEVER: usize = CHANNELS + 1;
+
+// Whether a position is 1 to 16, and nothing is laid down there: no Cntt's value is 0.
+fn is_free(cntts: &[u8; 32], position: usize) -> bool
+    ensures { λ t. ⌜ t ≡ free (now (cntts .entry)) position ⌝ }
+{
+    if position == 0 {
+        return false;
+    }
+    if CHANNELS < position {
+        return false;
+    }
+    cntts[CNTT_BYTES * position - 1] == 0
+}
+
+// The Cntt of a record laid down at its position, in place, where that is free.
+// Answers how many Cntts there must be for the position to be right.
+fn lay_down(cntts: &mut [u8; 32], position: usize, channel: u8, second: SecondTable) -> usize
+    ensures { λ n. ⌜ (n ≡ claimed (now (cntts .entry)) position second) × (now (cntts .exit) ≡ laidDown (now (cntts .entry)) position channel second) ⌝ }
 {
     match second {
-        SecondTable::Absent => {}
-        SecondTable::Value(v) => {
-            if number < CHANNELS {
-                let at = CNTT_BYTES * number;
-                cntts[at] = channel;
-                cntts[at + 1] = v;
+        SecondTable::Absent => {
+            if position == 0 {
+                return 0;
             }
+            NEVER
+        }
+        SecondTable::Value(v) => {
+            if !is_free(cntts, position) {
+                return NEVER;
+            }
+            let at = CNTT_BYTES * position - CNTT_BYTES;
+            cntts[at] = channel;
+            cntts[at + 1] = v;
+            position
         }
     }
 }
 
+// The larger of two numbers.
+fn larger_of(a: usize, b: usize) -> usize
+    ensures { λ r. ⌜ r ≡ larger a b ⌝ }
+{
+    if a < b {
+        return b;
+    }
+    a
+}
+
 // Record number i, whose bytes 0-25 stand at the start of b: its first byte out of range, then a source channel that an earlier record has.
-// Where it is accepted, its Cntt is laid down behind those before. A refusal stays.
+// Where it is accepted, its Cntt is laid down at its position. A refusal stays.
 pub fn look_at_bytes(
     x: Checked,
     i: usize,
     b: &[u8],
     second: SecondTable,
+    position: u8,
     cntts: &mut [u8; 32],
 ) -> Checked
     requires { ⌜ (26 ≤ length (now b)) × Looking x i ⌝ }
-    ensures { λ y. ⌜ (y ≡ looked x i (recordOf (now (b .entry)) second)) × (now (cntts .exit) ≡ laidAfter (now (cntts .entry)) x i (recordOf (now (b .entry)) second)) ⌝ }
+    ensures { λ y. ⌜ (y ≡ looked (now (cntts .entry)) x i (recordOf (now (b .entry)) second position)) × (now (cntts .exit) ≡ laidAfter (now (cntts .entry)) x i (recordOf (now (b .entry)) second position)) ⌝ }
 {
     if x.number != 0 {
         return x;
@@ -151,7 +192,7 @@ pub fn look_at_bytes(
     if (x.seen >> channel) % 2 == 1 {
         return refused_at(CHANNEL_AGAIN, RECORD * i);
     }
-    lay_down(cntts, x.seconds, b[0], second);
+    let claim = lay_down(cntts, position as usize, b[0], second);
     Checked {
         number: 0,
         place: 0,
@@ -159,6 +200,7 @@ pub fn look_at_bytes(
         length: x.length + chunks_size(second),
         seen: x.seen | 1u64 << channel,
         seconds: x.seconds + cntt_count(second),
+        reach: larger_of(x.reach, claim),
     }
 }
 
@@ -171,7 +213,7 @@ pub fn look_at(x: Taken, i: usize, r: Record) -> Taken
     let b = bytes_of(r);
     let before = x.checked;
     let mut cntts = x.cntts;
-    let after = look_at_bytes(before, i, &b, second, &mut cntts);
+    let after = look_at_bytes(before, i, &b, second, r.position, &mut cntts);
     Taken {
         checked: after,
         cntts: cntts,
@@ -191,7 +233,7 @@ fn no_plan(number: u8, place: usize) -> Plan
     }
 }
 
-// All records looked at: 14 where the room is smaller than the group.
+// All records looked at: 18 where a position asks for more Cntts than there are, then 14 where the room is smaller than the group.
 pub fn plan_for(x: Taken, room: usize) -> Plan
     ensures { λ r. ⌜ r ≡ planned x room ⌝ }
 {
@@ -199,6 +241,9 @@ pub fn plan_for(x: Taken, room: usize) -> Plan
     let cntts = x.cntts;
     if c.number != 0 {
         return no_plan(c.number, c.place);
+    }
+    if c.seconds < c.reach {
+        return no_plan(BAD_POSITIONS, 0);
     }
     if room < c.length {
         return no_plan(NO_ROOM, 0);

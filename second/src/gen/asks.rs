@@ -4,6 +4,7 @@
 use crate::body::read_body;
 use crate::gen::bodies::{great_bodies, longest_sound, Bodies};
 use crate::gen::dice::Dice;
+use crate::gen::positions::number_somehow;
 use crate::gen::sound::{plain, record, records, CNTT_VALUES};
 use crate::gen::spell::{body_line, Line};
 use crate::write::group_bytes;
@@ -14,13 +15,14 @@ pub const NO_GROUP: [u64; 6] = [3, 4, 32, 255, 256, 4_294_967_295];
 /// Source channels that the sample body has nowhere.
 pub const NO_CHANNEL: [u8; 4] = [7, 16, 128, 255];
 
-/// Three groups: 3 records with two Cntts, none, and 1 record.
+/// Three groups: 3 records with two Cntts in some order, none, and 1 record.
 pub fn sample(dice: &mut Dice) -> Vec<u8> {
     let mut first = vec![plain(4), record(dice, 0), plain(15)];
     first[0].second_table = Some(dice.pick(&CNTT_VALUES));
     first[1].second_table = None;
     first[2].second_table = Some(dice.pick(&CNTT_VALUES));
     first[2].bytes[1..9].copy_from_slice(b" a b  \0 ");
+    number_somehow(dice, &mut first);
     [
         group_bytes(b"Main A,Main B", &first),
         group_bytes(b"Ending A", &[]),
@@ -47,23 +49,25 @@ pub fn over_bodies(
 }
 
 /// All of the catalogue but the moved faults.
-pub fn common_lists(bodies: &Bodies) -> [&[Vec<u8>]; 5] {
+pub fn common_lists(bodies: &Bodies) -> [&[Vec<u8>]; 6] {
     [
         &bodies.faults,
         &bodies.meetings,
         &bodies.limits,
         &bodies.looks,
+        &bodies.orders,
         &bodies.further,
     ]
 }
 
 /// All of the catalogue.
-fn all_lists(bodies: &Bodies) -> [&[Vec<u8>]; 6] {
+fn all_lists(bodies: &Bodies) -> [&[Vec<u8>]; 7] {
     [
         &bodies.faults,
         &bodies.meetings,
         &bodies.limits,
         &bodies.looks,
+        &bodies.orders,
         &bodies.moved,
         &bodies.further,
     ]

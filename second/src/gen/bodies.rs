@@ -1,10 +1,12 @@
-//! The catalogue of bodies: faults in the first, a middle and the last group, refusals that
-//! meet one another, limits met and passed by one, and sound bodies that look damaged.
+//! The catalogue of bodies: faults in the first, a middle and the last group, Cntts in any order,
+//! refusals that meet one another, limits met and passed by one, and sound bodies that look
+//! damaged.
 
 use crate::bytes::{CNTT, CSEG, CTAB, SDEC};
 use crate::gen::dice::Dice;
 use crate::gen::draft::{body_bytes, cntt, ctab, Chunk, Draft};
 use crate::gen::faults::{further, long_text, principal, text_of_256, Fault};
+use crate::gen::positions::{number, number_somehow, ORDERS};
 use crate::gen::sound::{full_group, plain, records, small_group, text_of_length, CNTT_VALUES};
 use crate::gen::spell::spell_parts;
 use crate::style::BODY_LIMIT;
@@ -19,6 +21,8 @@ pub struct Bodies {
     pub moved: Vec<Vec<u8>>,
     /// More faults of the same kinds.
     pub further: Vec<Vec<u8>>,
+    /// Cntts in any order, sound and with a fault behind them.
+    pub orders: Vec<Vec<u8>>,
     pub meetings: Vec<Vec<u8>>,
     pub limits: Vec<Vec<u8>>,
     pub looks: Vec<Vec<u8>>,
@@ -33,6 +37,7 @@ pub fn bodies(dice: &mut Dice) -> Bodies {
         faults,
         moved,
         further: pass(dice, &further(), 0),
+        orders: orders(dice),
         meetings: meetings(),
         limits: limits(dice),
         looks: looks(dice),
@@ -68,6 +73,137 @@ fn channels(text: &str, channels: &[u8]) -> Draft {
         })
         .collect();
     Draft::new(text.as_bytes(), &records)
+}
+
+/// Cntts in any order (document 02, §1): in every order of three, in each order of sixteen and
+/// beside Ctabs that have none; then what stands behind Cntts that are not in Ctab order.
+fn orders(dice: &mut Dice) -> Vec<Vec<u8>> {
+    let mut list = Vec::new();
+    for cntts in [
+        [9, 8, 12],
+        [9, 12, 8],
+        [8, 9, 12],
+        [8, 12, 9],
+        [12, 9, 8],
+        [12, 8, 9],
+    ] {
+        list.push(arranged("Main A", &[9, 8, 12], &cntts).bytes());
+    }
+    list.extend([
+        arranged("Main A", &[9, 8, 12, 0], &[0, 9]).bytes(),
+        arranged("Main A", &[9, 8, 12, 0], &[12, 8]).bytes(),
+        arranged("Main A", &[15, 0], &[0, 15]).bytes(),
+    ]);
+    for order in ORDERS {
+        let mut full = records(dice, 16);
+        for record in &mut full {
+            record.second_table = Some(dice.pick(&CNTT_VALUES));
+        }
+        number(dice, &mut full, order);
+        let some = arranged("Main B", &[3, 1, 2], &[1, 3]).bytes();
+        list.push([some, group_bytes(b"Main A", &full)].concat());
+    }
+    list.extend(behind_cntts());
+    list
+}
+
+/// A group of plain records with Ctabs and Cntts of these channels, in these orders.
+fn arranged(text: &str, ctabs: &[u8], cntts: &[u8]) -> Draft {
+    let records: Vec<_> = ctabs.iter().map(|&channel| plain(channel)).collect();
+    let mut group = Draft::new(text.as_bytes(), &records);
+    let values = CNTT_VALUES.iter().cycle().skip(ctabs.len());
+    let chunks = cntts.iter().zip(values);
+    group
+        .children
+        .extend(chunks.map(|(&channel, &value)| cntt(channel, value)));
+    group
+}
+
+/// Each refusal that can stand at or behind Cntts which are not in Ctab order: in the first, a
+/// middle and the last group in turn, and for a whole group in what follows it.
+fn behind_cntts() -> Vec<Vec<u8>> {
+    let sound = arranged("Main B", &[0, 5, 9], &[9, 5, 0]).bytes();
+    let mut list: Vec<Vec<u8>> = spoilt_cntts()
+        .iter()
+        .enumerate()
+        .map(|(turn, group)| match turn % 3 {
+            0 => [group.bytes(), named("Main C")].concat(),
+            1 => [named("Main A"), group.bytes(), sound.clone()].concat(),
+            _ => [named("Main A"), arranged_first(), group.bytes()].concat(),
+        })
+        .collect();
+    for after in [
+        b"C".to_vec(),
+        b"XSEG\0\0\0\0".to_vec(),
+        b"CSEG\0\0\0\x01".to_vec(),
+        b"CSEG\0\0\0\0".to_vec(),
+        named(","),
+        named("Main B"),
+        [many(31), named("Late")].concat(),
+    ] {
+        list.push([sound.clone(), after].concat());
+    }
+    for (child, index, value) in [(2, 0, 3), (1, 9, 7), (2, 26, 1)] {
+        let mut group = arranged("Main A", &[3, 4], &[4]);
+        group.children[child].payload[index] = value;
+        list.push([sound.clone(), group.bytes()].concat());
+        group.children[child].payload.pop();
+        list.push([sound.clone(), group.bytes()].concat());
+    }
+    list.push([named("Main B"), sound.clone()].concat());
+    list.push([many(32), sound].concat());
+    list
+}
+
+/// A sound group to stand before, its Cntts not in Ctab order.
+fn arranged_first() -> Vec<u8> {
+    arranged("Main C", &[2, 4], &[4, 2]).bytes()
+}
+
+/// Ctabs 0, 5 and 9 (children 1-3) and Cntts in another order with a fault: "Ctabs 0 5 9, Cntts
+/// 9 5 9" is 10 at the third Cntt.
+fn spoilt_cntts() -> Vec<Draft> {
+    let group = |cntts: &[u8]| arranged("Main D", &[0, 5, 9], cntts);
+    let mut list: Vec<Draft> = [
+        &[9, 5, 9][..],
+        &[9, 9, 5],
+        &[5, 0, 5],
+        &[9, 5, 0, 0],
+        &[9, 5, 0, 5],
+        &[9, 5, 0, 9],
+        &[9, 5, 7],
+        &[5, 0, 7, 7],
+        &[9, 5, 0, 7],
+        &[9, 0, 16],
+        &[9, 0, 255, 9],
+    ]
+    .map(group)
+    .into();
+    let mut put = |change: &dyn Fn(&mut Draft)| {
+        let mut group = group(&[9, 5, 0]);
+        change(&mut group);
+        list.push(group);
+    };
+    for value in [0x00, 0x05, 0x0B, 0x8B] {
+        put(&|group| group.children[6].payload[1] = value);
+    }
+    put(&|group| group.children[6].payload = vec![9, 0x05]);
+    put(&|group| group.children[6].payload = vec![7, 0x05]);
+    for length in [0, 1, 3] {
+        put(&|group| group.children[6].payload.resize(length, 0));
+    }
+    for length in [3, 0xFFFF_FFF8] {
+        put(&|group| group.children[6].declared = Some(length));
+    }
+    for length in [1, 4, 7] {
+        put(&|group| group.tail = b"Cntt\0\0\0"[..length].to_vec());
+    }
+    for tag in [SDEC, CSEG, *b"Ctb2"] {
+        put(&|group| group.children.push(Chunk::new(tag, b"Second")));
+    }
+    put(&|group| group.children.push(ctab(&plain(3))));
+    put(&|group| group.children.swap(3, 4));
+    list
 }
 
 /// One group of nothing but an Sdec.
@@ -177,7 +313,7 @@ fn record_meetings() -> Vec<Vec<u8>> {
         list.push(group.bytes());
         group.tail = b"Cnt".to_vec();
         list.push(group.bytes());
-        group.children.swap(4, 6);
+        group.reverse_cntts();
         list.push(group.bytes());
     }
     let mut group = sound.clone();
@@ -348,6 +484,7 @@ pub fn longest_sound(dice: &mut Dice) -> Vec<u8> {
         for record in &mut records {
             record.second_table = Some(dice.pick(&CNTT_VALUES));
         }
+        number_somehow(dice, &mut records);
         let text = text_of_length(dice, 255, &mut used);
         body.extend(group_bytes(&text, &records));
     }

@@ -132,27 +132,70 @@ pub fn broken(verb: &str) -> Vec<Line> {
     lines.into_iter().map(String::into_bytes).collect()
 }
 
-/// RECs that break the grammar, and the last that does not.
+/// RECs that break the grammar, the old form with two parts among them, and the last few that
+/// do not.
 fn records(sound: &str) -> Vec<String> {
     let digits = &sound[..52];
-    vec![
+    let mut list = vec![
         digits.to_string(),
-        format!("{digits}:"),
-        format!("{digits}:8"),
-        format!("{digits}:8A"),
-        format!("{digits}:800"),
-        format!("{digits}:--"),
         format!("{digits}-"),
-        format!("{digits}:-:0"),
-        format!("{digits}:84:2"),
-        format!("{}:-", &digits[2..]),
-        format!("{digits}00:-"),
-        format!("{}:-", digits.to_uppercase()),
-        format!("{}:-", digits.replace('f', "g")),
-        format!("{}:-", &digits[1..]),
+        format!("{}:-:0", &digits[2..]),
+        format!("{digits}00:-:0"),
+        format!("{}:-:0", digits.to_uppercase()),
+        format!("{}:-:0", digits.replace('f', "g")),
+        format!("{}:-:0", &digits[1..]),
         "-".to_string(),
-        format!("{digits}:84"),
-    ]
+        ":-:0".to_string(),
+        format!("{digits}::-:0"),
+    ];
+    for rest in [
+        "",
+        "-",
+        "84",
+        "8",
+        "8A",
+        "800",
+        "--",
+        "-:",
+        "84:",
+        ":",
+        ":0",
+        "8:1",
+        "8A:1",
+        "800:1",
+        "--:0",
+        "-0",
+        "840",
+        "-:-",
+        "84:-",
+        "84:-1",
+        "84:+1",
+        "84:x",
+        "84:1x",
+        "84:0x1",
+        "84:a",
+        "84:256",
+        "84:1000",
+        "84:4294967296",
+        "84:4294967297",
+        "84:18446744073709551617",
+        "84:1:",
+        "84:1:1",
+        "-:0:0",
+        "84:1.0",
+        "0:-",
+        "1:84",
+        "-:0",
+        "84:1",
+        "84:255",
+        "-:255",
+        "84:001",
+        "84:00000000000000000000000000000001",
+        "-:000255",
+    ] {
+        list.push(format!("{digits}:{rest}"));
+    }
+    list
 }
 
 /// Lines of no verb; they are printed where no verb is named.

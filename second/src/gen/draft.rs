@@ -45,11 +45,14 @@ pub struct Draft {
 }
 
 impl Draft {
-    /// The draft of a sound group, if text and records are sound.
+    /// The draft of a sound group, if text and records are sound; its Cntts stand by position,
+    /// and those of one position as their records do.
     pub fn new(text: &[u8], records: &[Record]) -> Draft {
         let mut children = vec![Chunk::new(SDEC, text)];
         children.extend(records.iter().map(ctab));
-        for record in records {
+        let mut by_position: Vec<&Record> = records.iter().collect();
+        by_position.sort_by_key(|record| record.position);
+        for record in by_position {
             if let Some(value) = record.second_table {
                 children.push(cntt(record.source_channel(), value));
             }
@@ -94,6 +97,16 @@ impl Draft {
             _ => last,
         };
         Some(numbers[wanted])
+    }
+
+    /// Turns the Cntts round.
+    pub fn reverse_cntts(&mut self) {
+        let numbers = self.numbers(CNTT);
+        for (&first, &last) in numbers.iter().zip(numbers.iter().rev()) {
+            if first < last {
+                self.children.swap(first, last);
+            }
+        }
     }
 
     /// Bytes of the group that stand after a child's header.

@@ -1,9 +1,10 @@
 //! The catalogue of edit: sound edits, each refusal before the next, every byte at the bounds
-//! of its range, and the catalogue of bodies.
+//! of its range, any position, and the catalogue of bodies.
 
 use crate::gen::asks::{common_lists, over_bodies, sample, some_channel, NO_CHANNEL, NO_GROUP};
 use crate::gen::bodies::{great_bodies, Bodies};
 use crate::gen::dice::Dice;
+use crate::gen::positions::{some_position, ANY_POSITION};
 use crate::gen::sound::{plain, record};
 use crate::gen::spell::{body_line, rec, Line};
 use crate::record::{Record, FIELDS, RANGES};
@@ -34,10 +35,21 @@ pub fn edit(dice: &mut Dice, bodies: &Bodies) -> Vec<Line> {
                 .split(' ')
                 .next_back()
                 .and_then(|word| word.parse().ok());
-            let new = record(dice, channel.unwrap_or(0));
+            let mut new = record(dice, channel.unwrap_or(0));
+            new.position = some_position(dice);
             format!("{place} {}", rec(&new))
         },
     ));
+    for position in ANY_POSITION {
+        for (channel, second_table) in [(0, None), (4, Some(0x84)), (15, None)] {
+            let new = Record {
+                second_table,
+                position,
+                ..record(dice, channel)
+            };
+            lines.push(edit_line(&sample, 0, channel, &new));
+        }
+    }
     lines
 }
 

@@ -3,6 +3,7 @@
 
 use crate::gen::dice::Dice;
 use crate::gen::draft::{Draft, StyleDraft};
+use crate::gen::positions::number_somehow;
 use crate::gen::sound::{record, CNTT_VALUES};
 use crate::record::Record;
 
@@ -25,7 +26,7 @@ pub fn family_body(dice: &mut Dice) -> Vec<u8> {
     body
 }
 
-/// One record for each flag, with a Cntt where it is set.
+/// One record for each flag, with a Cntt where it is set; the Cntts in some order.
 fn family_records(dice: &mut Dice, cntts: &[bool]) -> Vec<Record> {
     let first = dice.below(16);
     let mut records = Vec::new();
@@ -34,6 +35,7 @@ fn family_records(dice: &mut Dice, cntts: &[bool]) -> Vec<Record> {
         record.second_table = has_cntt.then(|| dice.pick(&CNTT_VALUES));
         records.push(record);
     }
+    number_somehow(dice, &mut records);
     records
 }
 

@@ -315,7 +315,7 @@ fn child_byte(tag: Tag, index: usize, value: u8) -> Fault {
     })
 }
 
-/// Refusals 10 and 11: channels that come twice, are missing or are out of order.
+/// Refusals 10 and 11: channels that come twice or are missing.
 fn channels() -> Vec<Fault> {
     vec![
         fault(|group, spot| copy_channel(group, CTAB, spot)),
@@ -330,19 +330,6 @@ fn channels() -> Vec<Fault> {
             }
         }),
         fault(|group, _| group.children.retain(|child| child.tag != CTAB)),
-        fault(|group, spot| {
-            let cntts = group.numbers(CNTT);
-            if cntts.len() > 1 {
-                let second = if spot == 0 { 1 } else { cntts.len() - 1 };
-                group.children.swap(cntts[second - 1], cntts[second]);
-            }
-        }),
-        fault(|group, _| {
-            let cntts = group.numbers(CNTT);
-            if let (Some(&first), Some(&last)) = (cntts.first(), cntts.last()) {
-                group.children.swap(first, last);
-            }
-        }),
     ]
 }
 

@@ -9,6 +9,7 @@ use crate::gen::asks::{
 use crate::gen::bodies::{longest_sound, many, Bodies};
 use crate::gen::chords::{some_part, NO_PART};
 use crate::gen::dice::Dice;
+use crate::gen::positions::number_somehow;
 use crate::gen::sound::{records, CNTT_VALUES};
 use crate::gen::spell::{body_line, spell, Line};
 use crate::group::Ctab;
@@ -16,13 +17,14 @@ use crate::record::Record;
 use crate::sdec::names;
 use crate::write::group_bytes;
 
-/// So many records of different source channels, these of them with a Cntt.
+/// So many records of different source channels, these of them with a Cntt, in some order.
 fn with_cntts(dice: &mut Dice, count: usize, cntts: &[usize]) -> Vec<Record> {
     let mut list = records(dice, count);
     for (number, record) in list.iter_mut().enumerate() {
         let has_cntt = cntts.contains(&number);
         record.second_table = has_cntt.then(|| dice.pick(&CNTT_VALUES));
     }
+    number_somehow(dice, &mut list);
     list
 }
 

@@ -6,6 +6,7 @@ use crate::gen::chords::{some_chord, some_part};
 use crate::gen::dice::Dice;
 use crate::gen::draft::{body_bytes, Draft};
 use crate::gen::faults::{further, principal, Fault, GREAT_LENGTHS};
+use crate::gen::positions::{number_somehow, some_position, spoil};
 use crate::gen::sound;
 use crate::gen::spell::{rec, spell, spell_oddly, Line};
 use crate::record::{Record, FIELDS, RANGES};
@@ -304,7 +305,7 @@ impl Mixture {
         )
     }
 
-    /// A record that is mostly sound.
+    /// A record that is mostly sound, of any position.
     fn record(&mut self) -> Record {
         let channel = self.dice.below(16) as u8;
         let mut record = sound::record(&mut self.dice, channel);
@@ -315,6 +316,7 @@ impl Mixture {
         if self.dice.percent(4) {
             record.second_table = Some(self.dice.byte());
         }
+        record.position = some_position(&mut self.dice);
         record
     }
 
@@ -351,7 +353,7 @@ impl Mixture {
     }
 
     fn write(&mut self) -> String {
-        let count = self.dice.pick(&[0, 1, 1, 2, 2, 3, 4]);
+        let count = self.dice.pick(&[0, 1, 1, 2, 2, 3, 3, 4, 5, 9]);
         let mut records = sound::records(&mut self.dice, count);
         if self.dice.percent(35) && count > 0 {
             let number = self.dice.below(count);
@@ -364,11 +366,14 @@ impl Mixture {
         if self.dice.percent(20) {
             self.change(&mut text);
         }
+        let fewer = count.saturating_sub(1);
         let wanted = self
             .dice
-            .pick(&[count, count, count, count + 1, count.saturating_sub(1)]);
+            .pick(&[count, count, count, count, fewer, fewer, count + 1]);
+        self.set_positions(&mut records, wanted.min(count));
         let length = group_bytes(&text, &records[..wanted.min(count)]).len();
-        let rooms = [length, length, length - 1, length + 3, self.dice.below(300)];
+        let any = self.dice.below(300);
+        let rooms = [length, length, length, length - 1, length + 3, any];
         let room = self.dice.pick(&rooms).min(2_048);
         let mut line = format!("write {} {wanted} {room}", self.spelled(&text));
         for record in &records {
@@ -376,6 +381,18 @@ impl Mixture {
             line.push_str(&rec(record));
         }
         line
+    }
+
+    /// Gives the records up to the count positions that mostly are right, the others any.
+    fn set_positions(&mut self, records: &mut [Record], count: usize) {
+        let (judged, beyond) = records.split_at_mut(count);
+        number_somehow(&mut self.dice, judged);
+        if self.dice.percent(20) {
+            spoil(&mut self.dice, judged);
+        }
+        for record in beyond {
+            record.position = some_position(&mut self.dice);
+        }
     }
 
     fn edit(&mut self) -> String {

@@ -13,6 +13,7 @@ pub mod faults;
 pub mod files;
 pub mod lookups;
 pub mod mixture;
+pub mod positions;
 pub mod records;
 pub mod sound;
 pub mod spell;

@@ -3,6 +3,7 @@
 use crate::gen::bodies::seg_text;
 use crate::gen::dice::Dice;
 use crate::gen::faults::{further_texts, long_text, principal_texts};
+use crate::gen::positions::{self, number, number_somehow, some_position, Order, ANY_POSITION};
 use crate::gen::sound::{plain, record, records, CNTT_VALUES};
 use crate::gen::spell::{rec, write_line, Line};
 use crate::record::{Record, FIELDS, RANGES};
@@ -53,6 +54,7 @@ pub fn place(dice: &mut Dice) -> Vec<Line> {
         place_line(&plain(3), 0, 128),
     ];
     lines.extend(place_orders());
+    lines.extend(place_positions());
     lines.extend(place_tables());
     lines.extend(place_limits());
     lines.extend(place_keys(dice));
@@ -101,6 +103,23 @@ fn place_orders() -> Vec<Line> {
     for index in [20, 21, 22] {
         lines.push(place_line(&with_cntt(&[(index, 0xFF)], 0x05), 0, 60));
         lines.push(place_line(&with_cntt(&[(index, 0xFF)], 0x80), 0, 60));
+    }
+    lines
+}
+
+/// Any position with and without a Cntt: placing does not read it.
+fn place_positions() -> Vec<Line> {
+    let mut lines = Vec::new();
+    for position in ANY_POSITION {
+        for record in [
+            plain(3),
+            with_cntt(&[], 0x84),
+            with_cntt(&[(20, 1)], 0x80),
+            with_cntt(&[(20, 1)], 0x81),
+            with_cntt(&[], 0x05),
+        ] {
+            lines.push(place_line(&Record { position, ..record }, 4, 60));
+        }
     }
     lines
 }
@@ -197,10 +216,14 @@ pub fn screen(dice: &mut Dice) -> Vec<Line> {
     let broken = Record {
         bytes: [0xEE; FIELDS],
         second_table: Some(0xEE),
+        position: 0xEE,
     };
     for (index, &(low, _)) in RANGES[..FIELDS].iter().enumerate() {
         for value in bounds(index) {
-            lines.push(line(&record(dice, 3), index as u64, value));
+            let position = some_position(dice);
+            let record = record(dice, 3);
+            let record = Record { position, ..record };
+            lines.push(line(&record, index as u64, value));
         }
         lines.push(line(&broken, index as u64, low));
         lines.push(line(&broken, index as u64, 0xEE));
@@ -208,11 +231,19 @@ pub fn screen(dice: &mut Dice) -> Vec<Line> {
     for value in CNTT_BOUNDS {
         lines.push(line(&with_cntt(&[], 0x84), 21, value));
     }
+    for position in ANY_POSITION {
+        for (index, value) in [(0, 7), (21, 4), (21, 6), (25, 5), (26, 0)] {
+            for record in [plain(3), with_cntt(&[], 0x84)] {
+                lines.push(line(&Record { position, ..record }, index, value));
+            }
+        }
+    }
     lines
 }
 
 pub fn write(dice: &mut Dice) -> Vec<Line> {
-    let three = [plain(4), record(dice, 0), record(dice, 15)];
+    let mut three = [plain(4), record(dice, 0), record(dice, 15)];
+    number(dice, &mut three, Order::Ctabs);
     let mut lines = Vec::new();
     for count in 0..=4 {
         let length = group_bytes(b"Main A", &three[..count.min(3)]).len();
@@ -222,6 +253,7 @@ pub fn write(dice: &mut Dice) -> Vec<Line> {
     }
     lines.extend(write_texts());
     lines.extend(write_orders());
+    lines.extend(positions::write(dice));
     lines.extend(write_bytes(dice));
     lines.extend(write_counts(dice));
     lines
@@ -274,9 +306,10 @@ fn write_orders() -> Vec<Line> {
 /// Each byte out of range, in the first, a middle and the last record, and at its bounds.
 fn write_bytes(dice: &mut Dice) -> Vec<Line> {
     let mut lines = Vec::new();
-    let mut put = |number: usize, change: &dyn Fn(&mut Record)| {
+    let mut put = |row: usize, change: &dyn Fn(&mut Record)| {
         let mut three = [plain(1), record(dice, 9), plain(14)];
-        change(&mut three[number % 3]);
+        change(&mut three[row % 3]);
+        number_somehow(dice, &mut three);
         lines.push(write_line(b"Main A", 3, 300, &three));
     };
     for (index, &(_, high)) in RANGES[..FIELDS].iter().enumerate() {

@@ -3,6 +3,7 @@
 
 use crate::gen::dice::Dice;
 use crate::gen::draft::{Chunk, Draft, StyleDraft};
+use crate::gen::positions::number_somehow;
 use crate::record::{Record, FIELDS, RANGES};
 use std::collections::HashSet;
 
@@ -126,10 +127,11 @@ pub fn plain(channel: u8) -> Record {
             0xFF, 0xFF, 0xFF, 0xFF, 0, 2, 0, 1, 11, 0, 127, 3,
         ],
         second_table: None,
+        position: 0,
     }
 }
 
-/// A sound record by chance.
+/// A sound record by chance; its position is right where it is alone.
 pub fn record(dice: &mut Dice, channel: u8) -> Record {
     let mut bytes = [0; FIELDS];
     for (index, byte) in bytes.iter_mut().enumerate() {
@@ -153,6 +155,7 @@ pub fn record(dice: &mut Dice, channel: u8) -> Record {
     Record {
         bytes,
         second_table,
+        position: u8::from(second_table.is_some()),
     }
 }
 
@@ -193,18 +196,26 @@ fn limits(dice: &mut Dice, bytes: &mut [u8; FIELDS]) {
     bytes[24] = high as u8;
 }
 
-/// So many records of different source channels.
+/// So many records of different source channels, at times all with a Cntt; these in some order.
 pub fn records(dice: &mut Dice, count: usize) -> Vec<Record> {
     let mut channels: Vec<u8> = (0..16).collect();
-    (0..count.min(16))
+    let mut list: Vec<Record> = (0..count.min(16))
         .map(|_| {
             let channel = channels.swap_remove(dice.below(channels.len()));
             record(dice, channel)
         })
-        .collect()
+        .collect();
+    if dice.percent(30) {
+        for record in &mut list {
+            record.second_table = Some(dice.pick(&CNTT_VALUES));
+        }
+    }
+    number_somehow(dice, &mut list);
+    list
 }
 
-/// A group that every fault finds a spot in: three Ctabs or more, three Cntts or more.
+/// A group that every fault finds a spot in: three Ctabs or more, three Cntts or more, these in
+/// some order.
 pub fn full_group(dice: &mut Dice, used: &mut HashSet<Vec<u8>>) -> Draft {
     let names = dice.between(1, 2);
     let text = text(dice, names, used);
@@ -212,6 +223,7 @@ pub fn full_group(dice: &mut Dice, used: &mut HashSet<Vec<u8>>) -> Draft {
     for record in &mut records {
         record.second_table = Some(dice.pick(&CNTT_VALUES));
     }
+    number_somehow(dice, &mut records);
     Draft::new(&text, &records)
 }
 

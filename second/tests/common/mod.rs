@@ -37,7 +37,17 @@ pub fn plain_record() -> Record {
             0xFF, 0xFF, 0xFF, 0, 2, 0, 1, 11, 0, 127, 3,
         ],
         second_table: None,
+        position: 0,
     }
+}
+
+/// Gives these positions to the records, one after another.
+pub fn at_positions(records: &[Record], positions: &[u8]) -> Vec<Record> {
+    assert_eq!(records.len(), positions.len());
+    let pairs = records.iter().zip(positions);
+    pairs
+        .map(|(&record, &position)| Record { position, ..record })
+        .collect()
 }
 
 /// The salvage list of a body, with all the room it can need.

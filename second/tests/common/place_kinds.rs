@@ -155,11 +155,38 @@ fn channel_kind(number: u8, children: &[&[u8]], tag: &str, channel: u8) -> Strin
     let (ctabs, cntts) = (of("Ctab"), of("Cntt"));
     match (number, tag) {
         (10, "Ctab") => "Ctab".to_string(),
-        (10, "Cntt") if cntts.last() == Some(&channel) => "Cntt in order".to_string(),
-        (10, "Cntt") => "Cntt out of order".to_string(),
+        (10, "Cntt") if cntts.last() == Some(&channel) => "Cntt behind its first".to_string(),
+        (10, "Cntt") if cntts.contains(&channel) => "Cntt behind others".to_string(),
         (11, "Cntt") if ctabs.is_empty() => "no Ctab at all".to_string(),
         (11, "Cntt") if !ctabs.contains(&channel) => "other Ctabs only".to_string(),
-        (11, "Cntt") => "out of order".to_string(),
         _ => panic!("{number} at {tag}"),
     }
+}
+
+/// Whether before the place of a refusal some group has Cntts that do not stand as their Ctabs
+/// do; and whether the last group before it has.
+pub fn behind_another_order(body: &[u8], place: usize) -> (bool, bool) {
+    let (mut seen, mut here) = (false, false);
+    let (mut ctabs, mut rows) = (Vec::new(), Vec::new());
+    let mut at = 0;
+    while at < place && tag_name(&body[at..]) != "other" {
+        let payload = at + 8;
+        let end = payload + be(body, at + 4);
+        match tag_name(&body[at..]) {
+            "CSEG" => {
+                (ctabs, rows, here) = (Vec::new(), Vec::new(), false);
+                at = payload;
+                continue;
+            }
+            "Ctab" if end <= place => ctabs.push(body[payload]),
+            "Cntt" if end <= place => {
+                rows.extend(ctabs.iter().position(|&channel| channel == body[payload]));
+            }
+            _ => (),
+        }
+        here |= !rows.is_sorted();
+        seen |= here;
+        at = end;
+    }
+    (seen, here)
 }

@@ -1,4 +1,4 @@
--- The row's first 26 bytes are the record's: its Ctab is theirs.
+-- The 26 bytes behind the row's edition are the record's: its Ctab is theirs.
 use Prim.Native.Nat.{_+_, _*_}
 use mathlib.Core.Path.{refl, ap, _∙_}
 use lib.ListN.{replicate}
@@ -23,6 +23,7 @@ pub put-row-ctab-spec : {M : Type 1} → statement M
 put-row-ctab-spec =
     tie.close
     (tie.spec
+    (λ c. search needs)
     (λ c. search needs)
     (λ c. search needs)
     (λ c. search needs)

@@ -6,7 +6,9 @@ use Rattle.read_table.proofs.record_at.Statement.{statement}
 use Rattle.read_table.proofs.record_at.Tie as tie
 
 returns : tie.Need-returns
-returns c = c .record-of .ensures ∙ record-here _ _ _ _ _ _ _ refl (c .before .before .second-at .ensures)
+returns c =
+    let k = c .before .before in
+    c .record-of .ensures ∙ record-here _ _ _ _ _ _ _ _ _ refl (k .before .before .cntt-of .ensures) (k .before .second-at .ensures) (k .position-at .ensures)
 
 pub record-at-spec : {M : Type 1} → statement M
 record-at-spec =
@@ -16,6 +18,8 @@ record-at-spec =
     (λ c. search needs)
     (λ c. search needs)
     (λ c. search needs)
+    (λ c κs. search needs)
+    (λ c κs. search needs)
     (λ c κs. search needs)
     (λ c. search needs)
     (λ c. search needs)

@@ -1,50 +1,15 @@
--- The Cntt that is looked for is the first from number j on; j goes up.
-use Prim.Native.Nat.{_-_, _≤_}
+-- `secondBy` on each side of the test.
 use native.Mathlib.Omega.{arith}
+use Rattle.read_table.proofs.Seconds.{second-there, second-none}
 use borrow.Author.Needs.{needs}
-use Rattle.read_table.proofs.Seconds.{Sought, sought-start, sought-next, second-here, second-none}
 use Rattle.read_table.proofs.second_at.Statement.{statement}
 use Rattle.read_table.proofs.second_at.Tie as tie
 
-abbrev Inv-loop : tie.InvT-loop
-Inv-loop s cntts seconds channel j₀ j = (j ≤ seconds) × Sought s cntts seconds channel j
+returns : tie.Need-returns
+returns c = second-there _ _ _ _ (omega arith)
 
-abbrev μ-loop : tie.MeasureT-loop
-μ-loop s cntts seconds channel j₀ j = seconds - j
-
-loop-holds : tie.Need-loop-holds Inv-loop μ-loop
-loop-holds c = (search needs, sought-start _ _ _ _)
-
-returns : tie.Need-returns Inv-loop μ-loop
-returns c =
-    let l = c .before .before .before .before .loop in
-    second-here _ _ _ _ _ (l .inv .1) (omega arith) (c .before .if1 .taken)
-
-loop-again : tie.Need-loop-again Inv-loop μ-loop
-loop-again c =
-    let l = c .before .before .before .loop in
-    (omega arith, sought-next _ _ _ _ _ (l .inv .1) (omega arith) (c .if1 .left))
-
-returns-2 : tie.Need-returns-2 Inv-loop μ-loop
-returns-2 c =
-    let l = c .before .loop in
-    second-none _ _ _ _ _ (l .inv .1) (omega arith)
+returns-2 : tie.Need-returns-2
+returns-2 c = second-none _ _ _ _ (omega arith)
 
 pub second-at-spec : {M : Type 1} → statement M
-second-at-spec =
-    tie.close
-    (tie.spec
-    Inv-loop
-    μ-loop
-    loop-holds
-    (λ c. search needs)
-    (λ c. search needs)
-    (λ c. search needs)
-    (λ c. search needs)
-    (λ c. search needs)
-    (λ c. search needs)
-    returns
-    (λ c. search needs)
-    (λ c. search needs)
-    loop-again
-    returns-2)
+second-at-spec = tie.close (tie.spec (λ c. search needs) (λ c. search needs) (λ c. search needs) (λ c. search needs) returns returns-2)

@@ -1,5 +1,5 @@
 use mathlib.Core.Path.{sym, ap}
-use Rattle.write_plan.specs.Checking.{cnttCount}
+use Rattle.layout.specs.Write.{cnttCount}
 use borrow.Author.Needs.{needs}
 use Rattle.write_plan.proofs.cntt_count.Statement.{statement}
 use Rattle.write_plan.proofs.cntt_count.Tie as tie

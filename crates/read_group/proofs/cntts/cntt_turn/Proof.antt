@@ -1,11 +1,11 @@
--- One law for each way out; the tables of homes give the order's fault.
+-- One law for each way out; the tables of homes give the Cntt's fault.
 use mathlib.Core.Path.{sym, _∙_}
 use native.Mathlib.Omega.{arith}
 use borrow.Author.Tests.{not-true, not-false}
 use Rattle.layout.specs.Group.{cnttTurn}
 use Rattle.layout.proofs.Heads.{head-within}
-use Rattle.layout.proofs.Cntts.{cntt-over, cntt-head, cntt-size, cntt-channel, cntt-value, cntt-order, cntt-last, channel-over, channel-in}
-use Rattle.read_group.proofs.OrderLaws.{order-at}
+use Rattle.layout.proofs.Cntts.{cntt-over, cntt-head, cntt-size, cntt-channel, cntt-value, cntt-fault, cntt-last, channel-over, channel-in}
+use Rattle.read_group.proofs.CnttLaws.{fault-at}
 use borrow.Author.Needs.{needs}
 use Rattle.read_group.proofs.cntts.cntt_turn.Statement.{statement}
 use Rattle.read_group.proofs.cntts.cntt_turn.Tie as tie
@@ -64,9 +64,9 @@ returns-6 c =
     let d = e .before .before in
     let low = rw (g .before .byte .ensures .0) at (g .if4 .left) in
     let pre = d .before .before .before .before .pre in
-    sym (cntt-order _ _ _ _ _ _ (d .before .before .if1 .left) _ (d .before .head-fault .ensures) (d .if2 .left) (sym (e .before .word-at .ensures .0) ∙ e .if3 .left)
+    sym (cntt-fault _ _ _ _ _ _ (d .before .before .if1 .left) _ (d .before .head-fault .ensures) (d .if2 .left) (sym (e .before .word-at .ensures .0) ∙ e .if3 .left)
     (channel-in _ low) (rw (f .before .before .byte2 .ensures .0) at (sym (f .before .is-cntt-value .ensures) ∙ not-false _ (f .if5 .left))) _
-    (c .before .order-fault .ensures ∙ order-at _ _ _ _ _ _ _ (pre .1 .0 .each _ (omega arith)) (pre .1 .1 .0 .each _ (omega arith)) _ _ (pre .1 .1 .1) (g .before .byte .ensures .0)) (c .if6 .taken))
+    (c .before .home-fault .ensures ∙ fault-at _ _ _ _ _ _ _ (pre .1 .0 .each _ (omega arith)) (pre .1 .1 .each _ (omega arith)) _ (g .before .byte .ensures .0)) (c .if6 .taken))
 
 returns-7 : tie.Need-returns-7
 unfolding cnttTurn
@@ -79,7 +79,7 @@ returns-7 c =
     let pre = d .before .before .before .before .pre in
     sym (cntt-last _ _ _ _ _ _ (d .before .before .if1 .left) _ (d .before .head-fault .ensures) (d .if2 .left) (sym (e .before .word-at .ensures .0) ∙ e .if3 .left)
     (channel-in _ low) (rw (f .before .before .byte2 .ensures .0) at (sym (f .before .is-cntt-value .ensures) ∙ not-false _ (f .if5 .left))) _
-    (c .before .order-fault .ensures ∙ order-at _ _ _ _ _ _ _ (pre .1 .0 .each _ (omega arith)) (pre .1 .1 .0 .each _ (omega arith)) _ _ (pre .1 .1 .1) (g .before .byte .ensures .0)) (c .if6 .left))
+    (c .before .home-fault .ensures ∙ fault-at _ _ _ _ _ _ _ (pre .1 .0 .each _ (omega arith)) (pre .1 .1 .each _ (omega arith)) _ (g .before .byte .ensures .0)) (c .if6 .left))
 
 pub cntt-turn-spec : {M : Type 1} → statement M
 cntt-turn-spec =

@@ -8,36 +8,34 @@ use Rattle.layout.specs.Group.{cnttChannel, cnttTurn, cnttsOf}
 use Rattle.layout.proofs.Runs.{run-stop, run-done, run-more}
 use Rattle.layout.proofs.Cntts.{cntt-turn-more, cntt-fits}
 use Rattle.read_group.specs.Homes.{Homes}
-use Rattle.read_group.specs.Order.{lastHome}
 use Rattle.read_group.proofs.HomeLaws.{homes-start}
-use Rattle.read_group.proofs.OrderLaws.{last-start, small, seen-more, home-there, last-more}
+use Rattle.read_group.proofs.CnttLaws.{small, seen-more}
 use borrow.Author.Needs.{needs}
 use Rattle.read_group.proofs.cntts.read_cntts.Statement.{statement}
 use Rattle.read_group.proofs.cntts.read_cntts.Tie as tie
 
 abbrev Inv-loop : tie.InvT-loop
-Inv-loop c p n homes seen₀ last₀ j₀ seen last j =
-    (p + 35 * n + 10 * j ≤ length c) × (Homes (cnttChannel c (p + 35 * n)) j seen × ((last ≡ lastHome c p n j)
-    × (cnttsOf c p n ≡ run (cnttTurn c p n (p + 35 * n)) j (length c + 1))))
+Inv-loop c p n homes seen₀ j₀ seen j =
+    (p + 35 * n + 10 * j ≤ length c) × (Homes (cnttChannel c (p + 35 * n)) j seen × (cnttsOf c p n ≡ run (cnttTurn c p n (p + 35 * n)) j (length c + 1)))
 
 abbrev μ-loop : tie.MeasureT-loop
-μ-loop c p n homes seen₀ last₀ j₀ seen last j = length c + 1 - j
+μ-loop c p n homes seen₀ j₀ seen j = length c + 1 - j
 
 loop-holds : tie.Need-loop-holds Inv-loop μ-loop
 unfolding cnttsOf
-loop-holds c = (omega arith, (homes-start _ _ refl, (last-start _ _ _, refl)))
+loop-holds c = (omega arith, (homes-start _ _ refl, refl))
 
 cntt-turn-requires : tie.Need-cntt-turn-requires Inv-loop μ-loop
-cntt-turn-requires c κs = (c .before .loop .inv .0, (c .before .before .before .pre .1, (c .before .loop .inv .1 .0, c .before .loop .inv .1 .1 .0)))
+cntt-turn-requires c κs = (c .before .loop .inv .0, (c .before .before .before .pre .1, c .before .loop .inv .1 .0))
 
 returns : tie.Need-returns Inv-loop μ-loop
-returns c = sym (c .before .before .before .before .before .loop .inv .1 .1 .1 ∙ run-stop _ _ _ _ _ (omega arith) (sym (c .before .before .before .cntt-turn .ensures) ∙ c .before .number .given .1))
+returns c = sym (c .before .before .before .before .before .loop .inv .1 .1 ∙ run-stop _ _ _ _ _ (omega arith) (sym (c .before .before .before .cntt-turn .ensures) ∙ c .before .number .given .1))
 
 enum-told : tie.Need-enum-told Inv-loop μ-loop
 enum-told c = search needs
 
 returns-2 : tie.Need-returns-2 Inv-loop μ-loop
-returns-2 c = sym (c .before .before .before .before .loop .inv .1 .1 .1 ∙ run-done _ _ _ (omega arith) (sym (c .before .before .cntt-turn .ensures) ∙ c .enum-told .given .1))
+returns-2 c = sym (c .before .before .before .before .loop .inv .1 .1 ∙ run-done _ _ _ (omega arith) (sym (c .before .before .cntt-turn .ensures) ∙ c .enum-told .given .1))
 
 byte-requires : tie.Need-byte-requires Inv-loop μ-loop
 byte-requires c κs = omega (arith, cntt-fits _ _ _ _ _ _ (cntt-turn-more _ _ _ _ _ (sym (c .before .before .cntt-turn .ensures) ∙ c .enum-told2 .given .1)))
@@ -45,32 +43,13 @@ byte-requires c κs = omega (arith, cntt-fits _ _ _ _ _ _ (cntt-turn-more _ _ _ 
 array-write-seen : tie.Need-array-write-seen Inv-loop μ-loop
 array-write-seen c = small _ _ _ _ (cntt-turn-more _ _ _ _ _ (sym (c .before .before .before .cntt-turn .ensures) ∙ c .before .enum-told2 .given .1)) _ (c .byte .ensures .0)
 
-element-copy-out-last : tie.Need-element-copy-out-last Inv-loop μ-loop
-element-copy-out-last c = small _ _ _ _ (cntt-turn-more _ _ _ _ _ (sym (c .before .before .before .cntt-turn .ensures) ∙ c .before .enum-told2 .given .1)) _ (c .byte .ensures .0)
-
-sub-last : tie.Need-sub-last Inv-loop μ-loop
-sub-last c =
-    let b = c .before in
-    let d = b .before in
-    let there = home-there _ _ _ _ (cntt-turn-more _ _ _ _ _ (sym (d .before .before .cntt-turn .ensures) ∙ d .enum-told2 .given .1)) _ (b .byte .ensures .0) _ (d .before .before .before .before .before .before .pre .1) in
-    omega arith
-
 loop-again : tie.Need-loop-again Inv-loop μ-loop
 loop-again c =
-    let b = c .before in
-    let d = b .before in
+    let d = c .before in
     let l = d .before .before .before .before .loop in
     let told = sym (d .before .before .cntt-turn .ensures) ∙ d .enum-told2 .given .1 in
-    let more = cntt-turn-more _ _ _ _ _ told in (
-      omega (arith, cntt-fits _ _ _ _ _ _ more),
-      (
-        seen-more _ _ _ _ more _ (b .byte .ensures .0) _ (l .inv .1 .0),
-        (
-          last-more _ _ _ _ more _ (b .byte .ensures .0) _ (d .before .before .before .before .before .before .pre .1),
-          l .inv .1 .1 .1 ∙ run-more _ _ _ (omega arith) told,
-        ),
-      ),
-    )
+    let more = cntt-turn-more _ _ _ _ _ told in
+    (omega (arith, cntt-fits _ _ _ _ _ _ more), (seen-more _ _ _ _ more _ (c .byte .ensures .0) _ (l .inv .1 .0), l .inv .1 .1 ∙ run-more _ _ _ (omega arith) told))
 
 pub read-cntts-spec : {M : Type 1} → statement M
 read-cntts-spec =
@@ -94,9 +73,6 @@ read-cntts-spec =
     (λ c. search needs)
     (λ c. search needs)
     array-write-seen
-    (λ c. search needs)
-    element-copy-out-last
-    sub-last
     (λ c. search needs)
     (λ c. search needs)
     loop-again)

@@ -9,8 +9,8 @@ use Rattle.read_record.proofs.held.first_bad_of.Statement.{statement}
 use Rattle.read_record.proofs.held.first_bad_of.Tie as tie
 
 -- the table's answer is about the record's own bytes
-asked : (c : tie.After-first-out) → c .first-out .result ≡ firstOut First (bytesOf (recordOf (c .before .before .args .b .now) (c .before .before .args .second))) 0 26
-asked c = read-out _ _ (c .before .before .pre) _ (c .first-out .ensures)
+asked : (c : tie.After-first-out) → c .first-out .result ≡ firstOut First (bytesOf (recordOf (c .before .before .args .b .now) (c .before .before .args .second) 0)) 0 26
+asked c = read-out _ _ _ (c .before .before .pre) _ (c .first-out .ensures)
 
 returns : tie.Need-returns
 returns c = sym (bad-early _ _ (asked (c .before)) (c .if1 .taken))

@@ -6,7 +6,7 @@ use Rattle.read_record.proofs.held.record_of.Statement.{statement}
 use Rattle.read_record.proofs.held.record_of.Tie as tie
 
 returns : tie.Need-returns
-returns c = fields _ _ (rw in-order refl)
+returns c = fields _ _ _ (rw in-order refl)
 
 pub record-of-spec : {M : Type 1} → statement M
 record-of-spec =

@@ -162,9 +162,9 @@ module _ {M : Type 1} (𝓤 : URA M) (H : Heap 𝓤) (A : Atoms 𝓤) (W : Given
       more i t =
           assigns ! (bin ! (load ! (from ! (stop !)) (look ! 21 refl)) (load ! (from ! (stop !)) (look ! 27 refl)) tt) (from ! (stop !)) (init ! 17 refl (tt, tt)) $
           rewrite ! 17 (λ (z : Bool). ‵ (fat fullShare tyBool l₇ 0 (vbool z))) t refl $ stays ! (load ! (from ! (stop !)) (look ! 17 refl)) $
-          assigns ! (bin ! (load ! (from ! (stop !)) (look ! 21 refl)) (lit ! tt) (scaled-fits _ _ 28 in-table (room₁ .1))) (from ! (stop !)) (init ! 15 refl (tt, scaled-fits _ _ 28 in-table (room₁ .1))) $
+          assigns ! (bin ! (load ! (from ! (stop !)) (look ! 21 refl)) (lit ! tt) (scaled-fits _ _ 29 in-table (room₁ .1))) (from ! (stop !)) (init ! 15 refl (tt, scaled-fits _ _ 29 in-table (room₁ .1))) $
           assigns ! (bin ! (load ! (from ! (fld ! refl (stop !))) (look-in ! 29 (sub ! 0 refl (whole !)))) (load ! (from ! (stop !)) (look ! 15 refl)) tt) (from ! (stop !)) (init ! 13 refl (tt, tt)) $
-          rewrite ! 13 (λ (p : ℕ). ‵ (fat fullShare tyPtr l₉ 0 (vptr b₁ p))) (sym (place-is 28 o₁ (i .0))) refl $
+          rewrite ! 13 (λ (p : ℕ). ‵ (fat fullShare tyPtr l₉ 0 (vptr b₁ p))) (sym (place-is 29 o₁ (i .0))) refl $
           move ! (2 ∷ []) $ elem-out ! R (Is R) (shows 𝓤 H A R) vals (LL.tells T.the-type T.Laws.the-laws) q′ rs (i .0) blank b₁ o₁ in-table (λ g.
           -- [table[i]; what it owns; the others; what the output owns; its token; the open borrow; what the table owns; _13; …]
           assigns ! (of-opd ! (load ! (from ! (hop ! (look ! 15 refl) (stop !))) (look-raw ! 0 refl))) (from ! (stop !)) (init ! 13 refl (LL.lawful T.the-type T.Laws.the-laws 𝓤 H A W .typed r _ g .0)) $
