@@ -106,7 +106,7 @@ static uint64_t salvage_plain(void) SALVAGE(plain_salvage, list[1])
 #define PLAYS(call) { casm_players r = call(in, in_size, (const uint8_t *)"Part B5 n 00003", 15, 7, 20); return mix(mix(mix(r.number, r.place), r.count), lent(r.channels, 16)); }
 static uint64_t plays_proved(void) PLAYS(casm_plays)
 static uint64_t plays_plain(void) PLAYS(plain_plays)
-#define PLACE(call) { uint64_t h = 0; for (unsigned i = 0; i < 4096; i++) { casm_note r = call(rows[i], (uint8_t)(i % 12), (uint8_t)(i % 128)); h = mix(h, mix(mix(r.number, r.place), (uint64_t)r.silent << 8 | r.note)); } return h; }
+#define PLACE(call) { uint64_t h = 0; for (unsigned i = 0; i < 4096; i++) { casm_note r = call(rows[i], (uint8_t)(i % 12), (uint8_t)(i % 128)); h = mix(h, mix(mix(r.number, r.place), r.note)); } return h; }
 static uint64_t place_proved(void) PLACE(casm_place)
 static uint64_t place_plain(void) PLACE(plain_place)
 #define WRITE(call, b) { casm_length r = call((const uint8_t *)"Main A,Main B", 13, table, sizeof table, written, b, 2048); return mix(mix(mix(r.number, r.place), r.length), checking ? lent(b, 2048) : 0); }

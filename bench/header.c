@@ -164,14 +164,21 @@ static void test_voice(void) {
 static void test_place(void) {
     casm_row row = record(0);
     casm_note note = casm_place(row, 5, 60);
-    test("place: example 12, root 5", note.number == CASM_ACCEPTED && !note.silent && note.note == 65);
+    test("place: example 12, root 5", note.number == CASM_ACCEPTED && note.note == 65);
     note = casm_place(row, 6, 60);
-    test("place: example 12, root 6", note.number == CASM_ACCEPTED && !note.silent && note.note == 54);
+    test("place: example 12, root 6", note.number == CASM_ACCEPTED && note.note == 54);
     note = casm_place(row, 12, 60);
     test("place: no such root", note.number == CASM_BAD_NUMBER && note.place == 0);
-    row.bytes[23] = 127;
+    row.bytes[23] = 60, row.bytes[24] = 65;
+    note = casm_place(row, 0, 54);
+    test("place: example 14, the lower of two equally near", note.number == CASM_ACCEPTED && note.place == 0 && note.note == 54);
+    row.bytes[23] = 127, row.bytes[24] = 127;
     note = casm_place(row, 0, 8);
-    test("place: example 15, silence", note.number == CASM_ACCEPTED && note.silent == 1 && note.note == 0);
+    test("place: example 15, within 0 to 127", note.number == CASM_ACCEPTED && note.place == 0 && note.note == 116);
+    row.bytes[23] = 74, row.bytes[24] = 60;
+    test("place: crossed limits, the nearest above", casm_place(row, 0, 66).note == 78);
+    test("place: crossed limits, the nearest below", casm_place(row, 0, 60).note == 72);
+    test("place: crossed limits, the lower of two equally near", casm_place(row, 0, 80).note == 68);
     row.bytes[24] = 200;
     note = casm_place(row, 0, 60);
     test("place: a byte out of range", note.number == CASM_OUT_OF_RANGE && note.place == 24);

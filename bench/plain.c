@@ -253,7 +253,11 @@ casm_note plain_place(casm_row row, uint8_t root, uint8_t note)
     }
     if (value < b[23]) value += (b[23] - value + 11) / 12 * 12;
     else if (value > b[24]) value -= (value - b[24] + 11) / 12 * 12;
-    if (value < b[23] || value > b[24]) return r.silent = 1, r;
+    if (value < b[23] || value > b[24]) {
+        int up = ((value - b[23]) % 12 + 12) % 12;
+        value = b[23] + up;
+        if (value >= 12 && (value > 127 || up >= 6)) value -= 12;
+    }
     return r.note = (uint8_t)value, r;
 }
 

@@ -435,14 +435,8 @@ static int place(Text *line) {
     if (!record(line, &row) || !byte(line, &root) || !byte(line, &note) || !ended(line))
         return 0;
     casm_note placed = casm_place(row, root, note);
-    if (placed.number == 0 && placed.place == 0 && placed.silent == 1 && placed.note == 0) {
-        print("silent");
-        return 1;
-    }
-    if (told(placed.number, placed.place, placed.silent | placed.note))
+    if (told(placed.number, placed.place, placed.note))
         print_number(placed.note);
-    if (placed.silent != 0)
-        print(" and more");
     return 1;
 }
 

@@ -29,7 +29,7 @@
 
 /* The version of this header and of the archive that belongs to it. With the same major number nothing that stands here changes: no name,
  * no field, no size, no number, and no answer to any input. A minor number adds calls or constants. CASM_VERSION is both, to compare with.
- * 2.0: Cntts are read in any order, 18 is new, and a row has an edition and a position. */
+ * 2.0: Cntts are read in any order, 18 is new, and a row has an edition and a position. casm_place always gives a note: `silent` is gone. */
 #define CASM_VERSION_MAJOR 2
 #define CASM_VERSION_MINOR 0
 #define CASM_VERSION (1000 * CASM_VERSION_MAJOR + CASM_VERSION_MINOR)
@@ -148,11 +148,10 @@ typedef struct {
     unsigned char channels[16];
 } casm_players;
 
-/* The note, or silence (1 or 0); under silence the note is 0. */
+/* The note. */
 typedef struct {
     unsigned char number;
     unsigned long place;
-    unsigned char silent;
     unsigned char note;
 } casm_note;
 
@@ -213,7 +212,8 @@ casm_players casm_plays(
  * Refusals: the body's; 16 where there is no such group; 15. */
 casm_span casm_voice(const unsigned char *body, unsigned long body_length, unsigned long group, unsigned char source);
 
-/* The note that a record gives for a note (0-127) under a chord root (0-11), or silence.
+/* The note that a record gives for a note (0-127) under a chord root (0-11). Where no octave of it lies within the record's limits, which may be
+ * crossed, it is the octave within 0 to 127 that is nearest to the low limit, the lower of two equally near.
  * Refusals: 16 for root or note; 9 for a byte of the record, at its place (a bad Cntt value counts as byte 21); 17. */
 casm_note casm_place(casm_row row, unsigned char root, unsigned char note);
 

@@ -169,8 +169,7 @@ fn run_plays(body: &[u8], part: &[u8], root: u8, chord_type: u8) -> String {
 
 fn run_place(record: &Record, root: u8, note: u8) -> String {
     match place_note(record, root, note) {
-        Ok(Some(note)) => format!("ok {note}"),
-        Ok(None) => "silent".to_string(),
+        Ok(note) => format!("ok {note}"),
         Err(refusal) => refused(refusal),
     }
 }

@@ -1,4 +1,5 @@
-//! Placing a note by chord root. Follows "Placing a note" and "Placement: 16, 9, 17".
+//! Placing a note by chord root. Follows "Placing a note" and "Placement: 16, 9, 17", and where
+//! no octave of the value lies within both limits document 02, §3.
 
 use crate::plays::ROOTS;
 use crate::record::{first_bad_byte, Record, TABLE};
@@ -16,8 +17,8 @@ const HIGH_LIMIT: usize = 24;
 const EFFECTIVE: [u8; 6] = [0x00, 0x01, 0x02, 0x81, 0x03, 0x05];
 const OCTAVE: i32 = 12;
 
-/// The note that sounds, or none where the note is silent.
-pub fn place_note(record: &Record, chord_root: u8, note: u8) -> Answer<Option<u8>> {
+/// The note that sounds.
+pub fn place_note(record: &Record, chord_root: u8, note: u8) -> Answer<u8> {
     if chord_root >= ROOTS || note >= NOTES {
         return refuse(16, 0);
     }
@@ -53,8 +54,9 @@ fn shift(record: &Record, chord_root: u8) -> i32 {
     }
 }
 
-/// The value by octaves into the limits: up to the low limit, or down to the high limit.
-fn fold(record: &Record, value: i32) -> Option<u8> {
+/// The value by octaves into the limits: up to the low limit, or down to the high limit. Where
+/// this does not end within both, no octave lies there, and the nearest one is the answer.
+fn fold(record: &Record, value: i32) -> u8 {
     let low = i32::from(record.bytes[LOW_LIMIT]);
     let high = i32::from(record.bytes[HIGH_LIMIT]);
     let mut folded = value;
@@ -68,8 +70,24 @@ fn fold(record: &Record, value: i32) -> Option<u8> {
         }
     }
     if low <= folded && folded <= high {
-        Some(folded as u8)
+        folded as u8
     } else {
-        None
+        nearest_octave(value, low) as u8
     }
+}
+
+/// Document 02, §3: "answer the octave of it within 0 to 127 that is nearest to the low limit, the
+/// lower of two equally near. This holds for crossed limits too." Each is looked at, the lowest
+/// first, and taken where it is nearer than the one taken before.
+fn nearest_octave(value: i32, low: i32) -> i32 {
+    let lowest = value.rem_euclid(OCTAVE);
+    let mut nearest = lowest;
+    let mut octave = lowest;
+    while octave < i32::from(NOTES) {
+        if (octave - low).abs() < (nearest - low).abs() {
+            nearest = octave;
+        }
+        octave += OCTAVE;
+    }
+    nearest
 }

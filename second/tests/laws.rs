@@ -576,7 +576,7 @@ fn a_part_is_a_name_of_its_group() {
     assert!(seen[0] > 300 && seen[1] > 1_500, "{seen:?}");
 }
 
-/// Placement against every octave of the value, the answer picked by the document's words.
+/// Placement against every octave of the value, the answer picked by the documents' words.
 #[test]
 fn placement_by_brute_force() {
     let mut dice = Dice::new(35);
@@ -600,8 +600,8 @@ fn placement_by_brute_force() {
     }
 }
 
-/// None where the answer is 17; silence is an answer.
-fn by_octaves(record: &Record, root: i64, note: i64) -> Option<Option<u8>> {
+/// None where the answer is 17.
+fn by_octaves(record: &Record, root: i64, note: i64) -> Option<u8> {
     let field = |index: usize| i64::from(record.bytes[index]);
     let bypass = match record.second_table {
         Some(value) => value == 0x80,
@@ -620,16 +620,22 @@ fn by_octaves(record: &Record, root: i64, note: i64) -> Option<Option<u8>> {
     let (low, high) = (field(23), field(24));
     let octaves: Vec<i64> = (-20..=20)
         .map(|octave| value + 12 * octave)
-        .filter(|&other| low <= other && other <= high)
+        .filter(|other| (0..=127).contains(other))
         .collect();
-    let chosen = if octaves.contains(&value) {
+    let within = octaves
+        .iter()
+        .filter(|&&other| low <= other && other <= high);
+    let chosen = if low <= value && value <= high {
         Some(value)
     } else if value < low {
-        octaves.iter().min().copied()
+        within.min().copied()
     } else {
-        octaves.iter().max().copied()
+        within.max().copied()
     };
-    Some(chosen.map(|note| note as u8))
+    let nearest = octaves
+        .iter()
+        .min_by_key(|&&other| ((other - low).abs(), other));
+    chosen.or(nearest.copied()).map(|note| note as u8)
 }
 
 /// The condition of the request's third demand is needed: new bytes that complete a CSEG begun

@@ -464,13 +464,13 @@ fn placement_in_order() {
     assert_eq!(no(place(&bad_fixed, None, 11, 127)), (9, 25));
     assert_eq!(no(place(&[(20, 1)], None, 11, 127)), (17, 0));
     assert_eq!(no(place(&crossed, None, 0, 60)), (17, 0));
-    assert_eq!(place(&crossed, Some(0x80), 0, 60), Ok(None));
-    assert_eq!(place(&fixed_bypass, None, 7, 60), Ok(Some(60)));
+    assert_eq!(place(&crossed, Some(0x80), 0, 66), Ok(54));
+    assert_eq!(place(&fixed_bypass, None, 7, 60), Ok(60));
     assert_eq!(no(place(&fixed_bypass, Some(0x81), 7, 60)), (17, 0));
     assert_eq!(no(place(&[(21, 6)], Some(0x80), 7, 60)), (9, 21));
     assert_eq!(no(place(&[(22, 12)], Some(0x05), 7, 60)), (9, 21));
     assert_eq!(no(place(&[(20, 2)], Some(0x05), 7, 60)), (9, 20));
-    assert_eq!(place(&[(18, 11), (22, 0)], None, 1, 0), Ok(Some(2)));
+    assert_eq!(place(&[(18, 11), (22, 0)], None, 1, 0), Ok(2));
 }
 
 #[test]

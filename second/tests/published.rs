@@ -13,7 +13,7 @@ use second::refusal::Refusal;
 
 /// Places three notes and answers them from low to high, as the documents print them.
 fn chord(record: &Record, root: u8, notes: [u8; 3]) -> [u8; 3] {
-    let mut placed = notes.map(|note| place_note(record, root, note).unwrap().unwrap());
+    let mut placed = notes.map(|note| place_note(record, root, note).unwrap());
     placed.sort();
     placed
 }

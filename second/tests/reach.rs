@@ -1,10 +1,11 @@
-//! What the generator must reach: every (verb, answer) pair that document 01 with request §1 of
-//! document 02 allows and no other, for find and body every number at every kind of place, and
-//! in writing every kind of right and wrong positions.
+//! What the generator must reach: every (verb, answer) pair that document 01 with requests §1 and
+//! §3 of document 02 allows and no other, for find and body every number at every kind of place,
+//! in writing every kind of right and wrong positions, and in placing every kind of limits.
 
 mod common;
 
 use common::chunks::{groups, names, of_tag};
+use common::note_kinds::{note_kinds, Asked, OF_ALL, OF_NEAREST};
 use common::place_kinds::{behind_another_order, body_kind, file_kind};
 use second::body::read_body;
 use second::calls::answer;
@@ -40,7 +41,7 @@ const VERBS: [&str; 13] = [
 ];
 
 fn allowed() -> BTreeSet<(&'static str, Outcome)> {
-    let mut pairs = BTreeSet::from([("none", Outcome::Bad), ("place", Outcome::Silent)]);
+    let mut pairs = BTreeSet::from([("none", Outcome::Bad)]);
     for verb in VERBS {
         pairs.insert((verb, Outcome::Ok));
         pairs.insert((verb, Outcome::Bad));
@@ -499,6 +500,68 @@ fn positions_of_the_other_verbs() {
         printed += usize::from(!positions.is_sorted());
     }
     assert!(printed > 100, "{printed}");
+}
+
+/// The low limits of each number of keys.
+type Lows = BTreeMap<usize, BTreeSet<i32>>;
+
+/// How often each kind of limits is reached, and at which low limits each width is, by so many
+/// lines of `place`.
+fn limits_reached(seed: u64, count: usize) -> (BTreeMap<String, usize>, Lows) {
+    let mut reached = BTreeMap::new();
+    let mut lows = Lows::new();
+    for line in Script::new(seed, &["place"]).take(count) {
+        let told = answer(&line);
+        if told == "bad" {
+            continue;
+        }
+        let asked = Asked::of(&tokens(&line).unwrap());
+        for kind in note_kinds(&asked, &told) {
+            *reached.entry(kind).or_insert(0) += 1;
+        }
+        if told.starts_with("ok") {
+            if let Some(keys) = asked.narrow_keys() {
+                lows.entry(keys).or_default().insert(asked.low);
+            }
+        }
+    }
+    (reached, lows)
+}
+
+/// The kinds of limits: every width with and without an octave within, crossed limits, both ends,
+/// ties, the nearer octave below 0 or above 127, bypass, and refusals with such limits.
+fn kinds_of_limits() -> BTreeSet<String> {
+    let mut kinds: BTreeSet<String> = OF_NEAREST
+        .iter()
+        .map(|kind| format!("nearest, {kind}"))
+        .collect();
+    kinds.extend(OF_ALL.map(str::to_string));
+    for keys in 1..=12 {
+        kinds.insert(format!("{keys} keys, within"));
+    }
+    for keys in 1..=11 {
+        kinds.insert(format!("{keys} keys, nearest"));
+    }
+    kinds
+}
+
+/// Every kind of limits, by the catalogue alone and often by the mixture; every width at two
+/// thirds of the low limits that it can have, or more.
+#[test]
+fn place_reaches_every_kind_of_limits() {
+    let catalogue = Script::new(14, &["place"]).before_mixture();
+    let (early, _) = limits_reached(14, catalogue);
+    let early: BTreeSet<String> = early.into_keys().collect();
+    assert_eq!(early, kinds_of_limits());
+    let (reached, lows) = limits_reached(15, 20_000);
+    for kind in kinds_of_limits() {
+        assert!(reached[&kind] > 20, "{kind} {}", reached[&kind]);
+    }
+    for keys in 1..=12 {
+        let most = 129 - keys;
+        let got = lows[&keys].len();
+        assert!(3 * got > 2 * most, "{keys} keys at {got} of {most}");
+    }
 }
 
 /// Refusal places of the verbs on records: every byte index that has a range.

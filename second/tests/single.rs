@@ -129,17 +129,17 @@ fn every_table_under_both_rules() {
         record.second_table = cntt;
         place_note(&record, 4, 60).map_err(|refusal| refusal.number)
     };
-    assert_eq!(answer(0, 0, None), Ok(Some(60)));
-    assert_eq!(answer(1, 0, None), Ok(Some(60)));
+    assert_eq!(answer(0, 0, None), Ok(60));
+    assert_eq!(answer(1, 0, None), Ok(60));
     for table in 1..=5 {
-        assert_eq!(answer(0, table, None), Ok(Some(64)));
+        assert_eq!(answer(0, table, None), Ok(64));
         assert_eq!(answer(1, table, None), Err(17));
     }
     for table in 0..=5 {
-        assert_eq!(answer(0, table, Some(0x80)), Ok(Some(60)));
-        assert_eq!(answer(1, table, Some(0x80)), Ok(Some(60)));
+        assert_eq!(answer(0, table, Some(0x80)), Ok(60));
+        assert_eq!(answer(1, table, Some(0x80)), Ok(60));
         for value in [0x04, 0x06, 0x0A, 0x81, 0x83, 0x8A] {
-            assert_eq!(answer(0, table, Some(value)), Ok(Some(64)));
+            assert_eq!(answer(0, table, Some(value)), Ok(64));
             assert_eq!(answer(1, table, Some(value)), Err(17));
         }
     }

@@ -7,9 +7,11 @@ use borrow.Author.Tests.{ltb-true, ltb-false}
 use lib.Dec.{T}
 use lib.IntN.{ℤ, pos, negsuc, negℤ, natAbs, _+ℤ_, _-ℤ_}
 use lib.Signed.{mag, ltZ, remZ, quotZ, nonNeg}
-use Rattle.layout.specs.Place.{octaves, folded, silence, note, heard}
+use mir.Syntax.{w32}
+use mir.Val.{SFits, toZ, ofZ}
+use Rattle.layout.specs.Place.{octaves, folded, nearest, heard}
 use Rattle.ask_place.specs.Octaves.{remainder}
-use Rattle.ask_place.proofs.Signed.{never, sub-same, sub-up, sub-down, pos-pos, negsuc-pos, mag-sub}
+use Rattle.ask_place.proofs.Signed.{never, sub-same, sub-up, sub-down, pos-pos, negsuc-pos, mag-sub, fits, u8-reads, reads-back}
 
 -- ---- the remainder that the machine gives
 
@@ -53,6 +55,33 @@ unfolding remainder
 remainder-small (pos a) = omega arith
 remainder-small (negsuc a) = omega arith
 
+-- a remainder that a call gave reads back
+pub rest-reads : (x m : ℤ) → m ≡ pos (remainder x) → toZ w32 (ofZ w32 m) ≡ pos (remainder x)
+rest-reads x m e = rw e (reads-back (pos (remainder x)) (omega (arith, remainder-small x)))
+
+-- how far a value lies past a limit: the bits of the difference fit, read back near, and its remainder reads back
+module _ (v : ℤ) (n : ℕ) (hv : mag v < 4096) (hn : n < 256) where
+  abbrev past : ℤ
+  past = toZ w32 (ofZ w32 v) -ℤ toZ w32 n
+
+  is-past : past ≡ v -ℤ pos n
+  is-past = rw (reads-back v (omega arith), u8-reads n hn)
+
+  near : mag (v -ℤ pos n) < 8192
+  near = omega (arith, mag-sub v (pos n))
+
+  past-reads : toZ w32 (ofZ w32 past) ≡ v -ℤ pos n
+  past-reads = rw is-past (reads-back (v -ℤ pos n) (omega (arith, near)))
+
+  pub past-fits : SFits w32 past
+  past-fits = rw is-past (fits (v -ℤ pos n) (omega (arith, near)))
+
+  pub past-near : mag (toZ w32 (ofZ w32 past)) < 8192
+  past-near = rw past-reads near
+
+  pub past-rest : (m : ℤ) → m ≡ pos (remainder (toZ w32 (ofZ w32 past))) → toZ w32 (ofZ w32 m) ≡ pos (remainder (v -ℤ pos n))
+  past-rest m e = rest-reads (v -ℤ pos n) m (rw past-reads at e)
+
 -- ---- the ways out of folding
 
 pub fold-below : (v : ℤ) (low high : ℕ) → ltZ v (pos low) ≡ true → folded v low high ≡ pos low +ℤ pos (remainder (v -ℤ pos low))
@@ -91,16 +120,16 @@ module _ (v : ℤ) (low high : ℕ) where
   -- ---- what is heard
 
   module _ (n : ℤ) (e : n ≡ folded v low high) where
-    pub heard-low : ltZ n (pos low) ≡ true → heard v low high ≡ silence
+    pub heard-low : ltZ n (pos low) ≡ true → heard v low high ≡ nearest v low
     unfolding heard
     heard-low h = rw (← e, h)
 
     module _ (g : ltZ n (pos low) ≡ false) where
-      pub heard-high : ltZ (pos high) n ≡ true → heard v low high ≡ silence
+      pub heard-high : ltZ (pos high) n ≡ true → heard v low high ≡ nearest v low
       unfolding heard
       heard-high h = rw (← e, g, h)
 
-      pub heard-note : ltZ (pos high) n ≡ false → heard v low high ≡ note (natAbs n)
+      pub heard-note : ltZ (pos high) n ≡ false → heard v low high ≡ natAbs n
       unfolding heard
       heard-note h = rw (← e, g, h)
 

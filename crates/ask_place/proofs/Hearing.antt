@@ -1,150 +1,115 @@
--- What is heard, in document 01's words: the note within the limits that it names, and silence exactly when no octave lies within both.
--- A value stands in one of four ways to the limits, each with a formula for the folded value; an octave of it is a remainder by 12.
-use Prim.Native.Nat.{ℕ, suc, _+_, _-_, _*_, _/_, _%_, _≤_, _<_}
+-- What is heard, in the documents' words: the note within the limits that document 01 names, and the nearest octave exactly when no octave lies within both.
+-- A value stands in one of three ways to the limits, each with a formula for the folded value; an octave of it is a remainder by 12.
+use Prim.Native.Nat.{ℕ, suc, _+_, _-_, _%_, _≤_, _<_}
 use mathlib.Core.Path.{_≡_, refl, sym, _∙_, ap}
 use mathlib.Core.Bool.{Bool, true, false, cond, _||_}
 use mathlib.Core.Logic.{_⊎_, inl, inr}
 use native.Mathlib.Omega.{arith}
 use borrow.Author.Tests.{ltb-true, ltb-false}
 use lib.Dec.{ltb}
-use lib.IntN.{ℤ, pos, negsuc, natAbs, subℕ, _+ℤ_, _*ℤ_}
+use lib.IntN.{ℤ, pos, negsuc, natAbs, subℕ, _-ℤ_}
 use lib.Signed.{ltZ}
-use Rattle.layout.specs.Place.{folded, Heard, silence, note, heard}
-use Rattle.ask_place.specs.Octaves.{remainder, Octave, Sounds, NoneWithin}
-use Rattle.ask_place.proofs.Signed.{never, sub-up, sub-down, pos-pos, negsuc-pos, sub-lt, lt-sub, sub-ge, sub-is}
-use Rattle.ask_place.proofs.Folding.{fold-below, fold-above, fold-inside}
+use Rattle.layout.specs.Place.{folded, nearest, heard}
+use Rattle.ask_place.specs.Octaves.{remainder, Octave, Sounds, NoneWithin, Answers, within, elsewhere}
+use Rattle.ask_place.proofs.Signed.{never, sub-up, sub-down, pos-pos, sub-lt, lt-sub, sub-ge}
+use Rattle.ask_place.proofs.Folding.{remainder-small, fold-below, fold-above, fold-inside}
+use Rattle.ask_place.proofs.Nearing.{octave-rest, rest-octave, raised-rest, nearest-is-nearest, one-nearest}
 
 -- ---- where a value stands to the limits, and its folded value
 
 data Stands (v : ℤ) (low high : ℕ) : Type 0 where
-  raised : (a : ℕ) → v ≡ pos a → a < low → folded v low high ≡ pos (low + (11 - (low - suc a) % 12)) → Stands v low high
+  raised : ltZ v (pos low) ≡ true → (n : ℕ) → low ≤ n → n < low + 12 → n % 12 ≡ remainder v → folded v low high ≡ pos n → Stands v low high
   lowered : (a : ℕ) → v ≡ pos a → low ≤ a → high < a → folded v low high ≡ subℕ high (11 - (a - suc high) % 12) → Stands v low high
   stays : (a : ℕ) → v ≡ pos a → low ≤ a → a ≤ high → folded v low high ≡ pos a → Stands v low high
-  under : (a : ℕ) → v ≡ negsuc a → folded v low high ≡ pos (low + (11 - (a + low) % 12)) → Stands v low high
 
 stands : (v : ℤ) (low high : ℕ) → Stands v low high
 unfolding remainder
-stands (pos a) low high = go (ltb a low) refl (ltb high a) refl
+stands v low high = go (ltZ v (pos low)) refl v refl
   where
-    go : (s : Bool) → ltb a low ≡ s → (t : Bool) → ltb high a ≡ t → Stands (pos a) low high
-    go true g t h = let z = ltb-true a low g in raised a refl z (rw (fold-below (pos a) low high g, pos-pos a low, sub-down a low))
-    go false g true h =
-        let z = ltb-true high a h in
-        lowered a refl (ltb-false a low g) z (rw (fold-above (pos a) low high g h, pos-pos high a, sub-down high a) (pos-pos high (11 - (a - suc high) % 12)))
-    go false g false h = stays a refl (ltb-false a low g) (ltb-false high a h) (fold-inside (pos a) low high g h)
-stands (negsuc a) low high = under a refl (rw (fold-below (negsuc a) low high refl, negsuc-pos a low))
+    above : (a : ℕ) → v ≡ pos a → ltZ v (pos low) ≡ false → (t : Bool) → ltb high a ≡ t → Stands v low high
+    above a e g true h =
+        lowered a e (ltb-false a low (rw e at g)) (ltb-true high a h)
+        (fold-above v low high g (rw e h) ∙ rw (e, pos-pos high a, sub-down high a (ltb-true high a h)) (pos-pos high (11 - (a - suc high) % 12)))
+    above a e g false h = stays a e (ltb-false a low (rw e at g)) (ltb-false high a h) (fold-inside v low high g (rw e h) ∙ e)
 
--- ---- an octave, in natural numbers
+    go : (s : Bool) → ltZ v (pos low) ≡ s → (w : ℤ) → v ≡ w → Stands v low high
+    go true g w e =
+        let z = remainder-small (v -ℤ pos low) in
+        raised g (low + remainder (v -ℤ pos low)) (omega arith) (omega arith) (raised-rest v low) (fold-below v low high g)
+    go false g (pos a) e = above a e g (ltb high a) refl
+    go false g (negsuc a) e = never (let z : true ≡ false = rw e at g in cc)
 
-octave-pos : (v : ℤ) (a m : ℕ) → v ≡ pos a → Octave v m → m % 12 ≡ a % 12
-octave-pos v a m p o = go (o .by) (rw p at (o .is))
-  where
-    go : (k : ℤ) → pos m ≡ pos a +ℤ pos 12 *ℤ k → m % 12 ≡ a % 12
-    go (pos k) e = let z : m ≡ a + 12 * k = cc in omega arith
-    go (negsuc k) e = let z = sub-is a (12 * suc k) m (e ∙ pos-pos a (12 * suc k)) in omega arith
+-- a value below the low limit and above the high one: the limits are crossed
+crossed : (v : ℤ) (low high : ℕ) → ltZ v (pos low) ≡ true → ltZ (pos high) v ≡ true → high < low
+crossed (pos a) low high g h = omega (arith, ltb-true a low g, ltb-true high a h)
+crossed (negsuc a) low high g h = never (cc)
 
-octave-negsuc : (v : ℤ) (a m : ℕ) → v ≡ negsuc a → Octave v m → (m + suc a) % 12 ≡ 0
-octave-negsuc v a m p o = go (o .by) (rw p at (o .is))
-  where
-    go : (k : ℤ) → pos m ≡ negsuc a +ℤ pos 12 *ℤ k → (m + suc a) % 12 ≡ 0
-    go (pos k) e = let z = sub-is (12 * k) (suc a) m e in omega arith
-    go (negsuc k) e = let z : pos m ≡ negsuc (a + 12 * suc k) = e ∙ negsuc-pos a (12 * suc k) in never (cc)
+module _ (v : ℤ) (low high : ℕ) where
+  -- ---- within the limits: the note that document 01 names
 
--- ---- a note that sounds
-
-module _ (v : ℤ) (low high n : ℕ) where
-  sounding : Stands v low high → ltZ (folded v low high) (pos low) ≡ false → ltZ (pos high) (folded v low high) ≡ false → natAbs (folded v low high) ≡ n → Sounds v low high n
-  sounding (raised a p h f) g k e =
-      let z : low + (11 - (low - suc a) % 12) ≡ n = rw f at e in
-      let y = ltb-false high (low + (11 - (low - suc a) % 12)) (rw f at k) in
+  sounding : (n : ℕ) → Stands v low high → ltZ (folded v low high) (pos low) ≡ false → ltZ (pos high) (folded v low high) ≡ false → natAbs (folded v low high) ≡ n → Sounds v low high n
+  unfolding remainder
+  sounding n (raised b k l u r f) s t e =
+      let z : k ≡ n = rw f at e in
+      let y = ltb-false high k (rw f at t) in
       record {
         reaches = omega arith;
         meets = omega arith;
-        octave = record { by = pos ((low - suc a) / 12 + 1); is = rw p (ap pos (omega arith)) };
-        inside = λ s t. never (let x = ltb-false a low (rw p at s) in omega arith);
-        smallest = λ s m o l. let x = octave-pos v a m p o in omega arith;
-        largest = λ s m o l. never (let x = ltb-true high a (rw p at s) in omega arith);
+        octave = rest-octave v n (rw z at r);
+        inside = λ g h. never (let x : true ≡ false = sym b ∙ g in cc);
+        smallest = λ g m o h. let x = octave-rest v m o in omega arith;
+        largest = λ g m o h. let x = crossed v low high b g in omega arith;
       }
-  sounding (lowered a p g h f) s t e =
+  sounding n (lowered a p g h f) s t e =
       let y = sub-ge high (11 - (a - suc high) % 12) low (rw f at s) in
       let z : high - (11 - (a - suc high) % 12) ≡ n = rw (f, sub-up high (11 - (a - suc high) % 12) (omega arith)) at e in
-      let k = (a - suc high) / 12 in
       record {
         reaches = omega arith;
         meets = omega arith;
-        octave = record { by = negsuc k; is = rw p (sym (pos-pos a (12 * suc k) ∙ (sub-up a (12 * suc k) (omega arith) ∙ ap pos (omega arith)))) };
+        octave = rest-octave v n (rw p (omega arith));
         inside = λ q r. never (let x = ltb-false high a (rw p at r) in omega arith);
         smallest = λ q m o l. never (let x = ltb-true a low (rw p at q) in omega arith);
-        largest = λ q m o l. let x = octave-pos v a m p o in omega arith;
+        largest = λ q m o l. let x : m % 12 ≡ a % 12 = rw p at (octave-rest v m o) in omega arith;
       }
-  sounding (stays a p g h f) s t e =
+  sounding n (stays a p g h f) s t e =
       let z : a ≡ n = rw f at e in
       record {
         reaches = omega arith;
         meets = omega arith;
-        octave = record { by = pos 0; is = rw p (ap pos (omega arith)) };
+        octave = rest-octave v n (rw p (omega arith));
         inside = λ q r. p ∙ ap pos z;
         smallest = λ q m o l. never (let x = ltb-true a low (rw p at q) in omega arith);
         largest = λ q m o l. never (let x = ltb-true high a (rw p at q) in omega arith);
       }
-  sounding (under a p f) g k e =
-      let z : low + (11 - (a + low) % 12) ≡ n = rw f at e in
-      let y = ltb-false high (low + (11 - (a + low) % 12)) (rw f at k) in
-      let j = (low + a) / 12 + 1 in
-      record {
-        reaches = omega arith;
-        meets = omega arith;
-        octave = record { by = pos j; is = rw p (sym (sub-up (12 * j) (suc a) (omega arith) ∙ ap pos (omega arith))) };
-        inside = λ q r. never (let x : _≡_ {A = Bool} true false = rw p at q in cc);
-        smallest = λ q m o l. let x = octave-negsuc v a m p o in omega arith;
-        largest = λ q m o l. never (let x : _≡_ {A = Bool} false true = rw p at q in cc);
-      }
 
-  -- the note that is heard is the one that document 01 names
-  pub heard-sounds : heard v low high ≡ note n → Sounds v low high n
-  unfolding heard
-  heard-sounds e = go (ltZ (folded v low high) (pos low)) refl (ltZ (pos high) (folded v low high)) refl e
-    where
-      go : (s : Bool) → ltZ (folded v low high) (pos low) ≡ s → (t : Bool) → ltZ (pos high) (folded v low high) ≡ t
-          → cond (s || t) silence (note (natAbs (folded v low high))) ≡ note n → Sounds v low high n
-      go true g t h q = never (cc)
-      go false g true h q = never (cc)
-      go false g false h q = sounding (stands v low high) g h (cc)
+  -- ---- past a limit: every octave is
 
--- ---- silence
-
-module _ (v : ℤ) (low high : ℕ) where
-  -- the folded value lies past a limit: then so does every octave
   past : Stands v low high → (ltZ (folded v low high) (pos low) ≡ true) ⊎ (ltZ (pos high) (folded v low high) ≡ true) → NoneWithin v low high
-  past (raised a p h f) (inl q) m l k o = let z = ltb-true (low + (11 - (low - suc a) % 12)) low (rw f at q) in omega arith
-  past (raised a p h f) (inr q) m l k o = let z = ltb-true high (low + (11 - (low - suc a) % 12)) (rw f at q) in let x = octave-pos v a m p o in omega arith
-  past (lowered a p g h f) (inl q) m l k o = let z = sub-lt high (11 - (a - suc high) % 12) low (rw f at q) in let x = octave-pos v a m p o in omega arith
+  unfolding remainder
+  past (raised b k l u r f) (inl q) m g h o = let z = ltb-true k low (rw f at q) in omega arith
+  past (raised b k l u r f) (inr q) m g h o = let z = ltb-true high k (rw f at q) in let x = octave-rest v m o in omega arith
+  past (lowered a p g h f) (inl q) m l k o =
+      let z = sub-lt high (11 - (a - suc high) % 12) low (rw f at q) in
+      let x : m % 12 ≡ a % 12 = rw p at (octave-rest v m o) in
+      omega arith
   past (lowered a p g h f) (inr q) m l k o = let z = lt-sub high (11 - (a - suc high) % 12) high (rw f at q) in omega arith
   past (stays a p g h f) (inl q) m l k o = let z = ltb-true a low (rw f at q) in omega arith
   past (stays a p g h f) (inr q) m l k o = let z = ltb-true high a (rw f at q) in omega arith
-  past (under a p f) (inl q) m l k o = let z = ltb-true (low + (11 - (a + low) % 12)) low (rw f at q) in omega arith
-  past (under a p f) (inr q) m l k o = let z = ltb-true high (low + (11 - (a + low) % 12)) (rw f at q) in let x = octave-negsuc v a m p o in omega arith
 
-  -- "the answer is silence exactly when no octave of it lies within both limits": silence, so none
-  pub silent-none : heard v low high ≡ silence → NoneWithin v low high
+  -- ---- the answer
+
+  -- what is heard is the answer that the documents name ..
+  pub heard-answers : low ≤ 127 → Answers v low high (heard v low high)
   unfolding heard
-  silent-none e = go (ltZ (folded v low high) (pos low)) refl (ltZ (pos high) (folded v low high)) refl e
+  heard-answers l = go (ltZ (folded v low high) (pos low)) refl (ltZ (pos high) (folded v low high)) refl
     where
       go : (s : Bool) → ltZ (folded v low high) (pos low) ≡ s → (t : Bool) → ltZ (pos high) (folded v low high) ≡ t
-          → cond (s || t) silence (note (natAbs (folded v low high))) ≡ silence → NoneWithin v low high
-      go true g t h q = past (stands v low high) (inl g)
-      go false g true h q = past (stands v low high) (inr h)
-      go false g false h q = never (cc)
+          → Answers v low high (cond (s || t) (nearest v low) (natAbs (folded v low high)))
+      go true g t h = elsewhere (past (stands v low high) (inl g)) (nearest-is-nearest v low l)
+      go false g true h = elsewhere (past (stands v low high) (inr h)) (nearest-is-nearest v low l)
+      go false g false h = within (sounding (natAbs (folded v low high)) (stands v low high) g h refl)
 
-  -- .. and none, so silence
-  pub none-silent : NoneWithin v low high → heard v low high ≡ silence
-  none-silent f = go (heard v low high) refl
-    where
-      go : (h : Heard) → heard v low high ≡ h → heard v low high ≡ silence
-      go silence e = e
-      go (note n) e = let s = heard-sounds v low high n e in absurd (f n (s .reaches) (s .meets) (s .octave))
-
-  -- one value has one note
+  -- .. of which there are no two
   same-note : (m n : ℕ) → Sounds v low high m → Sounds v low high n → m ≡ n
   same-note m n s t = go (ltZ v (pos low)) refl (ltZ (pos high) v) refl
     where
@@ -153,10 +118,17 @@ module _ (v : ℤ) (low high : ℕ) where
       go false g true h = omega (arith, s .largest h n (t .octave) (t .meets), t .largest h m (s .octave) (s .meets))
       go false g false h = let z : pos m ≡ pos n = sym (s .inside g h) ∙ t .inside g h in cc
 
-  -- the note that document 01 names is heard
-  pub sounds-heard : (n : ℕ) → Sounds v low high n → heard v low high ≡ note n
-  sounds-heard n s = go (heard v low high) refl
-    where
-      go : (h : Heard) → heard v low high ≡ h → heard v low high ≡ note n
-      go silence e = absurd (silent-none e n (s .reaches) (s .meets) (s .octave))
-      go (note m) e = e ∙ ap note (same-note m n (heard-sounds v low high m e) s)
+  pub one-answer : (m n : ℕ) → Answers v low high m → Answers v low high n → m ≡ n
+  one-answer m n (within s) (within t) = same-note m n s t
+  one-answer m n (within s) (elsewhere f t) = absurd (f m (s .reaches) (s .meets) (s .octave))
+  one-answer m n (elsewhere f s) (within t) = absurd (f n (t .reaches) (t .meets) (t .octave))
+  one-answer m n (elsewhere f s) (elsewhere g t) = one-nearest v low m n s t
+
+  -- the answer is an octave of the value within 0 to 127
+  pub answer-octave : (n : ℕ) → high ≤ 127 → Answers v low high n → (n ≤ 127) × Octave v n
+  answer-octave n h (within s) = let z = s .meets in (omega arith, s .octave)
+  answer-octave n h (elsewhere f s) = (s .note, s .octave)
+
+-- "show that silence never occurs now": every value has an answer under all limits, crossed ones too, and one only
+pub always-one-answer : (v : ℤ) (low high : ℕ) → low ≤ 127 → high ≤ 127 → ((n : ℕ) × Answers v low high n) × ((m n : ℕ) → Answers v low high m → Answers v low high n → m ≡ n)
+always-one-answer v low high h l = ((heard v low high, heard-answers v low high h), one-answer v low high)

@@ -1,5 +1,6 @@
 pub mod Signed
 pub mod Folding
+pub mod Nearing
 pub mod Ways
 pub mod Shifting
 pub mod Hearing

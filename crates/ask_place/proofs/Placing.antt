@@ -1,117 +1,67 @@
--- A note placed by chord root, in document 01's words: what is granted is what is heard of note plus shift under the record's limits.
-use Prim.Native.Nat.{ℕ}
+-- A note placed by chord root, in the documents' words: what is told is what is heard of note plus shift under the record's limits, which lie within 0 to 127.
+use Prim.Native.Nat.{ℕ, _≤_}
 use mathlib.Core.Path.{_≡_, refl, sym, _∙_, ap}
 use mathlib.Core.Bool.{Bool, true, false, cond, _&&_, _||_, not}
 use mathlib.Core.Logic.{_↔_}
 use native.Mathlib.Omega.{arith}
+use borrow.Author.Tests.{ltb-false}
 use lib.Dec.{ltb, leb, eqb}
-use lib.IntN.{pos, _+ℤ_}
+use lib.IntN.{ℤ, pos, _+ℤ_}
 use Rattle.layout.specs.declared.record.Record.{Record}
 use Rattle.layout.specs.declared.answer.Placed.{Placed}
-use Rattle.layout.specs.Records.{firstBad}
-use Rattle.layout.specs.Answers.{Answer, refused, granted}
-use Rattle.layout.specs.Place.{bypass, shift, Heard, silence, note, heard, notePlaced, placed}
+use Rattle.layout.specs.Ranges.{ranges, commonRanges, setRanges}
+use Rattle.layout.specs.Records.{bytesOf, firstBad}
+use Rattle.layout.specs.Answers.{Answer, refused, granted, numberOf, valueOr}
+use Rattle.layout.specs.Place.{bypass, shift, heard, notePlaced, placed}
 use Rattle.layout.specs.Promises.{NotePlaced}
-use Rattle.ask_place.specs.Octaves.{Sounds, NoneWithin}
-use Rattle.ask_place.proofs.Signed.{never}
-use Rattle.ask_place.proofs.Hearing.{heard-sounds, silent-none, none-silent, sounds-heard}
+use Rattle.layout.proofs.Outs.{highs}
+use Rattle.read_record.proofs.BadBytes.{in-its-range}
+use Rattle.ask_place.specs.Octaves.{Octave, Answers}
+use Rattle.ask_place.proofs.Hearing.{heard-answers, one-answer, answer-octave}
+
+-- the limits of a record with no bad byte are notes
+module _ (r : Record) (h : 26 ≤ firstBad r) where
+  pub low-is-a-note : r .low ≤ 127
+  unfolding bytesOf highs ranges commonRanges setRanges
+  low-is-a-note = in-its-range r 23 h (omega arith)
+
+  pub high-is-a-note : r .high ≤ 127
+  unfolding bytesOf highs ranges commonRanges setRanges
+  high-is-a-note = in-its-range r 24 h (omega arith)
 
 -- three refusals in their order, then what is granted
-abbrev asked : Bool → Bool → Bool → ℕ → Answer Heard → Answer Heard
+abbrev asked : Bool → Bool → Bool → ℕ → Answer ℕ → Answer ℕ
 asked a b c k x = cond a (refused 16 0) (cond b (refused 9 k) (cond c (refused 17 0) x))
 
-asked-granted : (a b c : Bool) (k : ℕ) (x h : Heard) → asked a b c k (granted x) ≡ granted h → x ≡ h
-asked-granted true b c k x h e = never (cc)
-asked-granted false true c k x h e = never (cc)
-asked-granted false false true k x h e = never (cc)
-asked-granted false false false k x h e = cc
-
-asked-refused : (a b c : Bool) (k : ℕ) (x : Heard) (place : ℕ) → asked a b c k (granted x) ≡ refused 0 place → ⊥
-asked-refused true b c k x place e = let z : _≡_ {A = ℕ} 16 0 = cc in omega arith
-asked-refused false true c k x place e = let z : _≡_ {A = ℕ} 9 0 = cc in omega arith
-asked-refused false false true k x place e = let z : _≡_ {A = ℕ} 17 0 = cc in omega arith
-asked-refused false false false k x place e = never (cc)
+asked-accepted : (a b c : Bool) (k x : ℕ) → numberOf (asked a b c k (granted x)) ≡ 0 → (b ≡ false) × (valueOr 0 (asked a b c k (granted x)) ≡ x)
+unfolding numberOf valueOr
+asked-accepted true b c k x e = let z : _≡_ {A = ℕ} 16 0 = e in absurd (omega arith)
+asked-accepted false true c k x e = let z : _≡_ {A = ℕ} 9 0 = e in absurd (omega arith)
+asked-accepted false false true k x e = let z : _≡_ {A = ℕ} 17 0 = e in absurd (omega arith)
+asked-accepted false false false k x e = (refl, refl)
 
 module _ (r : Record) (root n : ℕ) where
-  -- what is granted is what is heard
-  pub granted-heard : (h : Heard) → notePlaced r root n ≡ granted h → heard (pos n +ℤ shift r root) (r .low) (r .high) ≡ h
-  unfolding notePlaced
-  granted-heard h e =
-      asked-granted (leb 12 root || leb 128 n) (ltb (firstBad r) 26) (not (bypass r) && eqb (r .rule) 1) (firstBad r)
-      (heard (pos n +ℤ shift r root) (r .low) (r .high)) h e
+  abbrev value : ℤ
+  value = pos n +ℤ shift r root
 
-  -- no refusal has number 0
-  never-refused-0 : (place : ℕ) → notePlaced r root n ≡ refused 0 place → ⊥
-  unfolding notePlaced
-  never-refused-0 place e =
-      asked-refused (leb 12 root || leb 128 n) (ltb (firstBad r) 26) (not (bypass r) && eqb (r .rule) 1) (firstBad r)
-      (heard (pos n +ℤ shift r root) (r .low) (r .high)) place e
+  module _ (p : Placed) (told : NotePlaced r root n p) (e : p .number ≡ 0) where
+    -- an accepted answer tells what is heard, of a record with no bad byte
+    accepted-heard : (ltb (firstBad r) 26 ≡ false) × (p .note ≡ heard value (r .low) (r .high))
+    unfolding notePlaced placed
+    accepted-heard =
+        let t = asked-accepted (leb 12 root || leb 128 n) (ltb (firstBad r) 26) (not (bypass r) && eqb (r .rule) 1) (firstBad r) (heard value (r .low) (r .high)) (sym (ap (λ (x : Placed). x .number) told) ∙ e) in
+        (t .0, ap (λ (x : Placed). x .note) told ∙ t .1)
 
-  -- a note that is granted is the one that document 01 names for note plus shift
-  pub placed-sounds : (m : ℕ) → notePlaced r root n ≡ granted (note m) → Sounds (pos n +ℤ shift r root) (r .low) (r .high) m
-  placed-sounds m e = heard-sounds (pos n +ℤ shift r root) (r .low) (r .high) m (granted-heard (note m) e)
+    sound : 26 ≤ firstBad r
+    sound = ltb-false (firstBad r) 26 (accepted-heard .0)
 
-  -- .. and the one that it names is granted
-  pub sounds-placed : (h : Heard) (m : ℕ) → notePlaced r root n ≡ granted h → Sounds (pos n +ℤ shift r root) (r .low) (r .high) m → h ≡ note m
-  sounds-placed h m e s = sym (granted-heard h e) ∙ sounds-heard (pos n +ℤ shift r root) (r .low) (r .high) m s
+    note-answers : Answers value (r .low) (r .high) (p .note)
+    note-answers = rw (accepted-heard .1) (heard-answers value (r .low) (r .high) (low-is-a-note r sound))
 
-  -- silence is granted exactly when no octave of note plus shift lies within both limits: silence, so none
-  pub placed-silent : notePlaced r root n ≡ granted silence → NoneWithin (pos n +ℤ shift r root) (r .low) (r .high)
-  placed-silent e = silent-none (pos n +ℤ shift r root) (r .low) (r .high) (granted-heard silence e)
+    -- the answer that the documents name is told, and no other ..
+    pub answer-told : (m : ℕ) → (p .note ≡ m) ↔ Answers value (r .low) (r .high) m
+    answer-told m = (λ q. rw q at note-answers, one-answer value (r .low) (r .high) (p .note) m note-answers)
 
-  -- .. and none, so silence
-  pub none-placed : (h : Heard) → notePlaced r root n ≡ granted h → NoneWithin (pos n +ℤ shift r root) (r .low) (r .high) → h ≡ silence
-  none-placed h e f = sym (granted-heard h e) ∙ none-silent (pos n +ℤ shift r root) (r .low) (r .high) f
-
-  -- ---- the same of the answer of the call
-
-  module _ (p : Placed) (told : NotePlaced r root n p) where
-    -- an accepted answer is that of what was granted
-    accepted-granted : p .number ≡ 0 → (h : Heard) × ((notePlaced r root n ≡ granted h) × (p ≡ placed (granted h)))
-    unfolding placed
-    accepted-granted e = go (notePlaced r root n) refl told
-      where
-        go : (a : Answer Heard) → notePlaced r root n ≡ a → p ≡ placed a → (h : Heard) × ((notePlaced r root n ≡ granted h) × (p ≡ placed (granted h)))
-        go (refused number place) g q = let z : number ≡ 0 = sym (ap (λ (x : Placed). x .number) q) ∙ e in absurd (never-refused-0 place (rw z at g))
-        go (granted h) g q = (h, (g, q))
-
-    -- an accepted answer without silence has the note that document 01 names
-    pub told-sounds : p .number ≡ 0 → p .silent ≡ false → Sounds (pos n +ℤ shift r root) (r .low) (r .high) (p .note)
-    unfolding placed
-    told-sounds e f = let a = accepted-granted e in go (a .0) (a .1 .0) (a .1 .1)
-      where
-        go : (h : Heard) → notePlaced r root n ≡ granted h → p ≡ placed (granted h) → Sounds (pos n +ℤ shift r root) (r .low) (r .high) (p .note)
-        go silence g q = let z : true ≡ false = sym (ap (λ (x : Placed). x .silent) q) ∙ f in never (cc)
-        go (note m) g q = rw q (placed-sounds m g)
-
-    -- an answer with silence: no octave of note plus shift lies within both limits
-    pub told-silent : p .silent ≡ true → NoneWithin (pos n +ℤ shift r root) (r .low) (r .high)
-    unfolding placed
-    told-silent f = go (notePlaced r root n) refl told
-      where
-        go : (a : Answer Heard) → notePlaced r root n ≡ a → p ≡ placed a → NoneWithin (pos n +ℤ shift r root) (r .low) (r .high)
-        go (refused number place) g q = let z : false ≡ true = sym (ap (λ (x : Placed). x .silent) q) ∙ f in never (cc)
-        go (granted silence) g q = placed-silent g
-        go (granted (note m)) g q = let z : false ≡ true = sym (ap (λ (x : Placed). x .silent) q) ∙ f in never (cc)
-
-    -- the note that document 01 names is told, and no other
-    pub sounds-told : p .number ≡ 0 → (m : ℕ) → ((p .silent ≡ false) × (p .note ≡ m)) ↔ Sounds (pos n +ℤ shift r root) (r .low) (r .high) m
-    unfolding placed
-    sounds-told e m = (λ t. rw (t .1) at (told-sounds e (t .0)), back)
-      where
-        back : Sounds (pos n +ℤ shift r root) (r .low) (r .high) m → (p .silent ≡ false) × (p .note ≡ m)
-        back s =
-            let a = accepted-granted e in
-            let q : p ≡ placed (granted (note m)) = a .1 .1 ∙ ap (λ (x : Heard). placed (granted x)) (sounds-placed (a .0) m (a .1 .0) s) in
-            (ap (λ (x : Placed). x .silent) q, ap (λ (x : Placed). x .note) q)
-
-    -- silence is told, with note 0, exactly when no octave of note plus shift lies within both limits
-    pub silence-told : p .number ≡ 0 → ((p .silent ≡ true) × (p .note ≡ 0)) ↔ NoneWithin (pos n +ℤ shift r root) (r .low) (r .high)
-    unfolding placed
-    silence-told e = (λ t. told-silent (t .0), back)
-      where
-        back : NoneWithin (pos n +ℤ shift r root) (r .low) (r .high) → (p .silent ≡ true) × (p .note ≡ 0)
-        back f =
-            let a = accepted-granted e in
-            let q : p ≡ placed (granted silence) = a .1 .1 ∙ ap (λ (x : Heard). placed (granted x)) (none-placed (a .0) (a .1 .0) f) in
-            (ap (λ (x : Placed). x .silent) q, ap (λ (x : Placed). x .note) q)
+    -- .. an octave of note plus shift within 0 to 127
+    pub octave-told : (p .note ≤ 127) × Octave value (p .note)
+    octave-told = answer-octave value (r .low) (r .high) (p .note) (high-is-a-note r sound) note-answers

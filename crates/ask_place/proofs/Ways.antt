@@ -9,7 +9,7 @@ use lib.IntN.{pos, _+ℤ_, _-ℤ_}
 use Rattle.layout.specs.declared.record.Record.{Record}
 use Rattle.layout.specs.Records.{firstBad}
 use Rattle.layout.specs.Answers.{Answer, refused, granted}
-use Rattle.layout.specs.Place.{effective, bypass, shift, Heard, heard, notePlaced, placed}
+use Rattle.layout.specs.Place.{effective, bypass, shift, heard, notePlaced, placed}
 
 -- ---- bypass
 
@@ -36,7 +36,7 @@ module _ (r : Record) (root : ℕ) (b : bypass r ≡ false) where
 -- ---- the call
 
 -- what the definitions answer makes the answer of the call
-pub answers : {x y : Answer Heard} → x ≡ y → placed y ≡ placed x
+pub answers : {x y : Answer ℕ} → x ≡ y → placed y ≡ placed x
 answers e = sym (ap placed e)
 
 module _ (r : Record) (root n : ℕ) where

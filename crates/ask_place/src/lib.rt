@@ -1,11 +1,11 @@
-// Placing a note by chord root (document 01, "Placing a note"): signed arithmetic, octave folding by remainders below zero.
+// Placing a note by chord root (document 01, "Placing a note"; document 02, §3): signed arithmetic, octave folding by remainders below zero.
 ghost use mathlib.Core.Path.{_≡_};
 ghost use mathlib.Core.Bool.{false};
 ghost use Prim.Native.Nat.{_<_};
 ghost use lib.IntN.{pos};
 ghost use lib.Signed.{mag};
 ghost use Rattle.layout.specs.Answers.{refused, granted};
-ghost use Rattle.layout.specs.Place.{effective, bypass, shift, folded, silence, heard, placed};
+ghost use Rattle.layout.specs.Place.{noteCount, effective, bypass, shift, folded, nearest, heard, placed};
 ghost use Rattle.layout.specs.Promises.{NotePlaced};
 ghost use Rattle.ask_place.specs.Octaves.{remainder};
 use layout::answer::Placed;
@@ -87,52 +87,63 @@ fn fold(value: i32, low: u8, high: u8) -> i32
     value
 }
 
-// The answer that is a refusal: no silence, note 0.
+// The octave of the value within 0 to 127 that is nearest to the low limit, the lower of two equally near.
+fn nearest_to(value: i32, low: u8) -> i32
+    requires { ⌜ (mag value < 4096) × (low < noteCount) ⌝ }
+    ensures { λ n. ⌜ n ≡ pos (nearest value low) ⌝ }
+{
+    let l = low as i32;
+    let up = octave_remainder(value - l);
+    let above = l + up;
+    let below = above - 12;
+    if below < 0 {
+        return above;
+    }
+    if (NOTE as i32) < above {
+        return below;
+    }
+    // Six keys up are as near as six keys down.
+    if 6 <= up {
+        return below;
+    }
+    above
+}
+
+// The note that is heard of a value under the limits.
+fn hear(value: i32, low: u8, high: u8) -> u8
+    requires { ⌜ (mag value < 4096) × ((low < noteCount) × (high < noteCount)) ⌝ }
+    ensures { λ n. ⌜ n ≡ heard value low high ⌝ }
+{
+    let n = fold(value, low, high);
+    if n < (low as i32) || (high as i32) < n {
+        return nearest_to(value, low) as u8;
+    }
+    n as u8
+}
+
+// The answer that is a refusal: note 0.
 fn refusal(number: u8, place: usize) -> Placed
     ensures { λ p. ⌜ p ≡ placed (refused number place) ⌝ }
 {
     Placed {
         number: number,
         place: place,
-        silent: false,
         note: 0,
     }
 }
 
-// The answer that is silence.
-fn silence() -> Placed
-    ensures { λ p. ⌜ p ≡ placed (granted silence) ⌝ }
+// The answer that is a note.
+fn told(note: u8) -> Placed
+    ensures { λ p. ⌜ p ≡ placed (granted note) ⌝ }
 {
     Placed {
         number: 0,
         place: 0,
-        silent: true,
-        note: 0,
-    }
-}
-
-// The note that is heard of a value under the limits, or silence.
-fn hear(value: i32, low: u8, high: u8) -> Placed
-    requires { ⌜ mag value < 4096 ⌝ }
-    ensures { λ p. ⌜ p ≡ placed (granted (heard value low high)) ⌝ }
-{
-    let n = fold(value, low, high);
-    if n < (low as i32) {
-        return silence();
-    }
-    if (high as i32) < n {
-        return silence();
-    }
-    let note = n as u8;
-    Placed {
-        number: 0,
-        place: 0,
-        silent: false,
         note: note,
     }
 }
 
-// The note that a record gives under a chord root, or silence, or the refusal.
+// The note that a record gives under a chord root, or the refusal.
 pub fn place_note(r: Record, root: u8, note: u8) -> Placed
     ensures { λ p. ⌜ NotePlaced r root note p ⌝ }
 {
@@ -149,11 +160,11 @@ pub fn place_note(r: Record, root: u8, note: u8) -> Placed
     let low = r.low;
     let high = r.high;
     if is_bypass(r) {
-        return hear(note as i32, low, high);
+        return told(hear(note as i32, low, high));
     }
     if r.rule == 1 {
         return refusal(ROOT_FIXED, 0);
     }
     let shift = shift_to(r, root);
-    hear((note as i32) + shift, low, high)
+    told(hear((note as i32) + shift, low, high))
 }

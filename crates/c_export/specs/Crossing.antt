@@ -77,9 +77,9 @@ asSpanned r = record { number = r .number; place = r .place; start = r .start; l
 abbrev pub asPlayed : Players → Played
 asPlayed r = record { number = r .number; place = r .place; count = r .count; channels = map channel (r .channels) }
 
--- the note, or silence
+-- the note
 abbrev pub asPlaced : Note → Placed
-asPlaced r = record { number = r .number; place = r .place; silent = r .silent; note = r .note }
+asPlaced r = record { number = r .number; place = r .place; note = r .note }
 
 -- a record after one field byte of it was set
 abbrev pub editOf : Changed → Edited

@@ -84,12 +84,11 @@ pub struct Players {
     pub channels: [u8; 16],
 }
 
-// The note, or silence; under silence the note is 0.
+// The note.
 #[repr(C)]
 pub struct Note {
     pub number: u8,
     pub place: usize,
-    pub silent: bool,
     pub note: u8,
 }
 

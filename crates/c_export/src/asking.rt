@@ -40,7 +40,7 @@ pub extern "C" fn casm_voice(body: &[u8], group: usize, source: u8) -> Span
     }
 }
 
-// The note that a record gives under a chord root, or silence, or the refusal.
+// The note that a record gives under a chord root, or the refusal.
 #[no_mangle]
 pub extern "C" fn casm_place(row: Row, root: u8, note: u8) -> Note
     ensures { λ r. ⌜ NotePlaced (recorded row) root note (asPlaced r) ⌝ }
@@ -49,7 +49,6 @@ pub extern "C" fn casm_place(row: Row, root: u8, note: u8) -> Note
     Note {
         number: x.number,
         place: x.place,
-        silent: x.silent,
         note: x.note,
     }
 }

@@ -6,15 +6,11 @@ use script_records::record_from;
 use script_text::print::OUT;
 use script_text::print::put_answer;
 use script_text::print::put_end;
-use script_text::print::put_text;
 use script_text::print::put_told;
 
 // `place REC ROOT NOTE`
 pub fn place(rec: &[u8], root: u8, note: u8, out: &mut [u8; OUT], used: usize) -> usize {
     let placed = place_note(record_from(rec), root, note);
-    if placed.silent {
-        return put_text(out, used, b"silent\n");
-    }
     put_told(
         out,
         used,

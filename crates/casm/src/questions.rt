@@ -27,7 +27,7 @@ pub fn voice_name<'a>(s: &'a [u8], group: usize, channel: SourceChannel) -> &'a 
     ask_voice::voice_name(s, group, channel)
 }
 
-// The note that a record gives under a chord root, or silence, or the refusal.
+// The note that a record gives under a chord root, or the refusal.
 pub fn place_note(r: Record, root: u8, note: u8) -> Placed
     ensures { λ p. ⌜ NotePlaced r root note p ⌝ }
 {

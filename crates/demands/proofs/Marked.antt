@@ -15,11 +15,11 @@ use Rattle.layout.specs.Style.{noStyle, sectionPlace, sectionTagged, sectionTur
 use Rattle.layout.specs.Salvage.{cseg, front, pieces, rest, listed, judged, parts, entriesFrom, salvage, entryNumbers, listNumbers, salvaged}
 use Rattle.layout.specs.Listing.{numeral, places, decimal, spaced, refusedLine, casmLine, entryLine, endLine, textListed, bodyIn, textFound, listText}
 use Rattle.layout.specs.Plays.{bit, rootMask, chordMask, playsUnder}
-use Rattle.layout.specs.Place.{becomes, effective, bypass, shift, octaves, folded, heard, notePlaced, placed}
+use Rattle.layout.specs.Place.{becomes, effective, bypass, shift, octaves, folded, octaveOf, standsBelow, standsAbove, distance, nearest, heard, notePlaced, placed}
 use Rattle.demands.specs.Examples.{Hold, examples, listExample}
 
 pub marked : Hold examples
-unfolding same has distinct every any firstOf first runOf run number word four tagAt tagged numberOf placeOf valueOr afterRun partOf counted inside commonRanges setRanges ranges soundTable outOf ruleAt outAt firstOut bytesOf badSecond badByte firstBad firstName laterNames names soundText shares headFault ctabsOver ctabAt ctabTurn cnttAt cnttTurn cnttsOf ctabsOf afterCntts afterCtabs contents payload groupSize behindHeader groupAt groupPlace textAt sharing afterContents groupTurnAt groupTurn bodyRun bodyRead ofGroup textOf cseg front pieces rest listed judged parts entriesFrom salvage bit rootMask chordMask playsUnder becomes effective bypass shift octaves folded heard notePlaced placed flatMap
+unfolding same has distinct every any firstOf first runOf run number word four tagAt tagged numberOf placeOf valueOr afterRun partOf counted inside commonRanges setRanges ranges soundTable outOf ruleAt outAt firstOut bytesOf badSecond badByte firstBad firstName laterNames names soundText shares headFault ctabsOver ctabAt ctabTurn cnttAt cnttTurn cnttsOf ctabsOf afterCntts afterCtabs contents payload groupSize behindHeader groupAt groupPlace textAt sharing afterContents groupTurnAt groupTurn bodyRun bodyRead ofGroup textOf cseg front pieces rest listed judged parts entriesFrom salvage bit rootMask chordMask playsUnder becomes effective bypass shift octaves folded octaveOf standsBelow standsAbove distance nearest heard notePlaced placed flatMap
 marked = (refl, (refl, (refl, (refl, (refl, (refl, (refl, (refl, (refl, (refl, (refl, (refl, (refl, (refl, (refl, (refl, (refl, (refl, (refl, (refl, (refl, (refl, (refl, (refl, (refl, (refl, (refl, (refl, (refl, (refl, (refl, (refl, (refl, tt)))))))))))))))))))))))))))))))))
 
 pub listed-file : Hold listExample

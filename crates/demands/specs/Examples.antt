@@ -1,4 +1,4 @@
--- The fifteen marked examples of document 01 and its example for `list`: a table each, and a theorem that every row of it holds of the definitions, by computation.
+-- The fifteen marked examples of document 01, 14 and 15 as document 02 (§3) has them, and document 01's example for `list`: a table each, and a theorem that every row of it holds of the definitions, by computation.
 use Prim.Native.Nat.{ℕ}
 use mathlib.Core.Path.{_≡_}
 use mathlib.Core.Bool.{Bool, true, false}
@@ -93,10 +93,7 @@ abbrev pub entry : ℕ → ℕ → ℕ → Entry
 entry place size kind = record { place = place; size = size; kind = kind }
 
 abbrev pub gives : ℕ → Placed
-gives n = record { number = 0; place = 0; silent = false; note = n }
-
-abbrev pub silent : Placed
-silent = record { number = 0; place = 0; silent = true; note = 0 }
+gives n = record { number = 0; place = 0; note = n }
 
 -- ---- the table; where an example names a value, the chord root is 0, so that the value is the note
 
@@ -146,10 +143,10 @@ examples =
     ∷ places (limited 60 74) 0 84 (gives 72)
     -- 14
     ∷ places (limited 60 65) 0 53 (gives 65)
-    ∷ places (limited 60 65) 0 54 silent
+    ∷ places (limited 60 65) 0 54 (gives 54)
     -- 15
     ∷ places (limited 127 127) 0 7 (gives 127)
-    ∷ places (limited 127 127) 0 8 silent
+    ∷ places (limited 127 127) 0 8 (gives 116)
     ∷ []
 
 -- ---- the example of the program `list`: "MThd, 6, 00 00 00 01 00 60, MTrk, 4, 00 FF 2F 00, then CASM, 23 and example 8"

@@ -2,7 +2,6 @@
 -- and what a caller in C sees is said here of the struct's own fields.
 use Prim.Native.Nat.{ℕ}
 use mathlib.Core.Path.{_≡_}
-use mathlib.Core.Bool.{false}
 use mathlib.Core.List.{List}
 use lib.ListN.{length, replicate}
 use Rattle.layout.specs.declared.edition.Edition.the-variants.{First}
@@ -109,7 +108,7 @@ VoiceRefuses =
 abbrev pub PlaceRefuses : Type 0
 PlaceRefuses =
     (row : Row) (root note : ℕ) (r : Note) → NotePlaced (recorded row) root note (asPlaced r)
-    → Refusing (PlaceRefused (recorded row) root note) (r .number) (r .place) ((r .silent ≡ false) × (r .note ≡ 0))
+    → Refusing (PlaceRefused (recorded row) root note) (r .number) (r .place) (r .note ≡ 0)
 
 -- casm_edit
 abbrev pub EditRefuses : Type 0

@@ -1,7 +1,6 @@
 -- Demand 1, continued: a refusal "changes no byte of lent memory"; and document 01: "on refusal counts and lengths are 0, other result fields are 0, a returned part is empty".
 use Prim.Native.Nat.{ℕ}
 use mathlib.Core.Path.{_≡_}
-use mathlib.Core.Bool.{false}
 use mathlib.Core.List.{List, []}
 use lib.ListN.{length, replicate}
 use Rattle.layout.specs.declared.edition.Edition.the-variants.{First}
@@ -86,7 +85,7 @@ NobodyTold =
 
 -- place_note
 abbrev pub NoNoteTold : Type 0
-NoNoteTold = (record′ : Record) (root note : ℕ) (r : Placed) → NotePlaced record′ root note r → (r .number ≡ 0 → ⊥) → (r .silent ≡ false) × (r .note ≡ 0)
+NoNoteTold = (record′ : Record) (root note : ℕ) (r : Placed) → NotePlaced record′ root note r → (r .number ≡ 0 → ⊥) → r .note ≡ 0
 
 -- ---- returned parts
 

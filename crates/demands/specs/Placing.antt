@@ -1,16 +1,16 @@
 -- Demand 2, note placement at the call, in both directions: "Otherwise shift is chord root minus source root, less 12 when the chord root is above the high key"; "Inside the limits this value is the answer; below, the
--- smallest note above by octaves that reaches the low limit; above, the largest below by octaves that meets the high limit. The answer is silence exactly when no octave of it lies within both limits".
--- Its words (`Octave`, `Sounds`, `NoneWithin`) have a line each in the specs of `ask_place`.
+-- smallest note above by octaves that reaches the low limit; above, the largest below by octaves that meets the high limit". Document 02, §3: "When no octave of the value lies within the limits, answer the octave
+-- of it within 0 to 127 that is nearest to the low limit, the lower of two equally near. This holds for crossed limits too." Its words (`Octave`, `Sounds`, `NoneWithin`, `Nearest`, `Answers`) have a line each in
+-- the specs of `ask_place`.
 use Prim.Native.Nat.{ℕ, _<_, _≤_}
 use mathlib.Core.Path.{_≡_}
 use mathlib.Core.Logic.{_⊎_, _↔_}
-use mathlib.Core.Bool.{true, false}
 use lib.IntN.{ℤ, pos, _+ℤ_, _-ℤ_}
 use Rattle.layout.specs.declared.record.Record.{Record}
 use Rattle.layout.specs.declared.answer.Placed.{Placed}
 use Rattle.layout.specs.Place.{effective, shift}
 use Rattle.layout.specs.Promises.{NotePlaced}
-use Rattle.ask_place.specs.Octaves.{Sounds, NoneWithin}
+use Rattle.ask_place.specs.Octaves.{Octave, Answers}
 
 -- a record's effective table is bypass, "00 or 80"
 abbrev pub Bypassed : Record → Type 0
@@ -33,14 +33,18 @@ value r root note = pos note +ℤ shift r root
 abbrev pub ShiftIsTheDocuments : Type 0
 ShiftIsTheDocuments = (r : Record) (root : ℕ) → Shifted r root (shift r root)
 
--- where the call accepts, it tells a note exactly where that is the note of the value under the record's limits ..
+-- where the call accepts, it tells a note exactly where that is the answer for the value under the record's limits ..
 abbrev pub NoteIsTold : Type 0
 NoteIsTold =
     (r : Record) (root note : ℕ) (p : Placed) → NotePlaced r root note p → p .number ≡ 0
-    → (n : ℕ) → ((p .silent ≡ false) × (p .note ≡ n)) ↔ Sounds (value r root note) (r .low) (r .high) n
+    → (n : ℕ) → (p .note ≡ n) ↔ Answers (value r root note) (r .low) (r .high) n
 
--- .. and silence, with note 0, exactly where no octave of the value lies within both limits
-abbrev pub SilenceIsTold : Type 0
-SilenceIsTold =
-    (r : Record) (root note : ℕ) (p : Placed) → NotePlaced r root note p → p .number ≡ 0
-    → ((p .silent ≡ true) × (p .note ≡ 0)) ↔ NoneWithin (value r root note) (r .low) (r .high)
+-- .. which is an octave of the value within 0 to 127 ..
+abbrev pub NoteIsAnOctave : Type 0
+NoteIsAnOctave = (r : Record) (root note : ℕ) (p : Placed) → NotePlaced r root note p → p .number ≡ 0 → (p .note ≤ 127) × Octave (value r root note) (p .note)
+
+-- .. "show that silence never occurs now": there is one answer for every value under all limits, crossed ones too, and there are no two
+abbrev pub SilenceNeverOccurs : Type 0
+SilenceNeverOccurs =
+    (v : ℤ) (low high : ℕ) → low ≤ 127 → high ≤ 127
+    → ((n : ℕ) × Answers v low high n) × ((m n : ℕ) → Answers v low high m → Answers v low high n → m ≡ n)

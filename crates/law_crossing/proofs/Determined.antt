@@ -75,7 +75,7 @@ abbrev span : Spanned → Span
 span a = record { number = a .number; place = a .place; start = a .start; length = a .length }
 
 abbrev note : Placed → Note
-note a = record { number = a .number; place = a .place; silent = a .silent; note = a .note }
+note a = record { number = a .number; place = a .place; note = a .note }
 
 -- ---- the calls for C: what is returned alone
 

@@ -1,6 +1,6 @@
 -- The calls that read and ask: what is told of the answer is told of the number and place that the caller has in hand.
 use Prim.Native.Nat.{ℕ}
-use mathlib.Core.Path.{_≡_, refl, ap, _∙_}
+use mathlib.Core.Path.{ap}
 use mathlib.Core.List.{List}
 use lib.ListN.{length}
 use Rattle.layout.specs.declared.record.Record.{Record}
@@ -12,13 +12,13 @@ use Rattle.layout.specs.declared.answer.Named.{Named}
 use Rattle.layout.specs.declared.answer.Channelled.{Channelled}
 use Rattle.layout.specs.declared.answer.Played.{Played}
 use Rattle.layout.specs.declared.answer.Placed.{Placed}
-use Rattle.layout.specs.Answers.{Answer, refused, granted, numberOf, placeOf, counted, countedAll, named, grouped, spanned}
+use Rattle.layout.specs.Answers.{granted, counted, countedAll, named, grouped, spanned}
 use Rattle.layout.specs.Body.{bodyRun, bodyRead}
 use Rattle.layout.specs.Asked.{groupFound, partFound, channelFound, channelled, recordsRead}
 use Rattle.layout.specs.Style.{casmFound, located}
 use Rattle.layout.specs.Plays.{whoPlays, played}
 use Rattle.layout.specs.Voice.{voiceSpan}
-use Rattle.layout.specs.Place.{Heard, silence, note, notePlaced, placed}
+use Rattle.layout.specs.Place.{notePlaced, placed}
 use Rattle.layout.specs.Promises.{CasmFound, BodyRead, GroupFound, PartFound, ChannelFound, RecordsRead, VoiceFound, PlaysTold, NotePlaced}
 use Rattle.law_refusals.specs.Given.{GivenUnder}
 use Rattle.law_refusals.specs.File.{FileRefused}
@@ -87,20 +87,8 @@ players-given s name root type r p =
     given (PlayersAsked s name root type) (players-asked-above s name root type) (whoPlays s name root type) (players-asked s name root type) (players-answers s name root type) (r .number) (r .place)
     (ap (λ (x : Played). x .number) p) (ap (λ (x : Played). x .place) p)
 
--- a note's answer has the number and the place of what it tells
-placed-number : (a : Answer Heard) → placed a .number ≡ numberOf a
-unfolding placed numberOf
-placed-number (refused k at) = refl
-placed-number (granted silence) = refl
-placed-number (granted (note n)) = refl
-
-placed-place : (a : Answer Heard) → placed a .place ≡ placeOf a
-unfolding placed placeOf
-placed-place (refused k at) = refl
-placed-place (granted silence) = refl
-placed-place (granted (note n)) = refl
-
 pub note-given : (m : Record) (root n : ℕ) (r : Placed) → NotePlaced m root n r → GivenUnder (PlaceRefused m root n) (r .number) (r .place)
+unfolding placed
 note-given m root n r p =
     given (PlaceRefused m root n) (place-above m root n) (notePlaced m root n) (place-told m root n) (place-answers m root n) (r .number) (r .place)
-    (ap (λ (x : Placed). x .number) p ∙ placed-number (notePlaced m root n)) (ap (λ (x : Placed). x .place) p ∙ placed-place (notePlaced m root n))
+    (ap (λ (x : Placed). x .number) p) (ap (λ (x : Placed). x .place) p)

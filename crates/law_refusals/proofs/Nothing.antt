@@ -1,7 +1,6 @@
 -- On refusal whatever else the answer carries is 0.
 use Prim.Native.Nat.{ℕ}
-use mathlib.Core.Path.{_≡_, refl, ap, _∙_}
-use mathlib.Core.Bool.{false}
+use mathlib.Core.Path.{_≡_, ap, _∙_}
 use mathlib.Core.List.{List, []}
 use lib.ListN.{length, replicate}
 use Rattle.layout.specs.declared.record.Record.{Record}
@@ -14,13 +13,13 @@ use Rattle.layout.specs.declared.answer.Channelled.{Channelled}
 use Rattle.layout.specs.declared.answer.Played.{Played}
 use Rattle.layout.specs.declared.answer.Placed.{Placed}
 use Rattle.layout.specs.declared.answer.Changed.{Changed}
-use Rattle.layout.specs.Answers.{Answer, refused, granted, counted, named, nowhere, grouped, Span, nothing, spanned}
+use Rattle.layout.specs.Answers.{counted, named, nowhere, grouped, Span, nothing, spanned}
 use Rattle.layout.specs.Body.{bodyRead}
 use Rattle.layout.specs.Asked.{groupFound, partFound, Whereabouts, channelFound, noRow, channelled}
 use Rattle.layout.specs.Style.{casmFound, located}
 use Rattle.layout.specs.Plays.{whoPlays, noChannel, inSixteen, played}
 use Rattle.layout.specs.Voice.{voiceSpan}
-use Rattle.layout.specs.Place.{Heard, silence, note, notePlaced, placed}
+use Rattle.layout.specs.Place.{notePlaced, placed}
 use Rattle.layout.specs.Screen.{fieldSet, changed}
 use Rattle.layout.specs.Promises.{CasmFound, BodyRead, GroupFound, PartFound, ChannelFound, VoiceFound, PlaysTold, NotePlaced, FieldSet}
 use Rattle.law_refusals.proofs.Kept.{none-given}
@@ -62,16 +61,9 @@ players-nothing s name root type r p z =
     let n = none-given (whoPlays s name root type) (r .number) (ap (λ (x : Played). x .number) p) z [] in
     (ap (λ (x : Played). x .count) p ∙ ap length n, ap (λ (x : Played). x .channels) p ∙ ap inSixteen n)
 
-note-none : (a : Answer Heard) → (placed a .number ≡ 0 → ⊥) → (placed a .silent ≡ false) × (placed a .note ≡ 0)
+pub note-nothing : (m : Record) (root n : ℕ) (r : Placed) → NotePlaced m root n r → (r .number ≡ 0 → ⊥) → r .note ≡ 0
 unfolding placed
-note-none (refused k at) z = (refl, refl)
-note-none (granted silence) z = absurd (z refl)
-note-none (granted (note n)) z = absurd (z refl)
-
-pub note-nothing : (m : Record) (root n : ℕ) (r : Placed) → NotePlaced m root n r → (r .number ≡ 0 → ⊥) → (r .silent ≡ false) × (r .note ≡ 0)
-note-nothing m root n r p z =
-    let h = note-none (notePlaced m root n) (λ e. z (ap (λ (x : Placed). x .number) p ∙ e)) in
-    (ap (λ (x : Placed). x .silent) p ∙ h .0, ap (λ (x : Placed). x .note) p ∙ h .1)
+note-nothing m root n r p z = ap (λ (x : Placed). x .note) p ∙ none-given (notePlaced m root n) (r .number) (ap (λ (x : Placed). x .number) p) z 0
 
 pub field-nothing : (old : Record) (index value : ℕ) (r : Changed) → FieldSet old index value r → (r .number ≡ 0 → ⊥) → r .held ≡ old
 unfolding changed

@@ -6,6 +6,7 @@ use crate::gen::chords::{some_chord, some_part};
 use crate::gen::dice::Dice;
 use crate::gen::draft::{body_bytes, Draft};
 use crate::gen::faults::{further, principal, Fault, GREAT_LENGTHS};
+use crate::gen::narrow;
 use crate::gen::positions::{number_somehow, some_position, spoil};
 use crate::gen::sound;
 use crate::gen::spell::{rec, spell, spell_oddly, Line};
@@ -336,7 +337,10 @@ impl Mixture {
     }
 
     fn place(&mut self) -> String {
-        let record = self.record();
+        let mut record = self.record();
+        if self.dice.percent(50) {
+            (record.bytes[23], record.bytes[24]) = narrow::limits(&mut self.dice);
+        }
         let root = self.dice.below(12) as u8;
         let note = self.dice.below(128) as u8;
         let any = self.dice.byte();
@@ -345,8 +349,8 @@ impl Mixture {
             1 => (root, any),
             2 => (12, note),
             3 => (root, 128),
-            4 => (root, any % 12),
-            5 => (root, 127 - any % 12),
+            4..=6 => (root, any % 24),
+            7..=9 => (root, 127 - any % 12),
             _ => (root, note),
         };
         format!("place {} {root} {note}", rec(&record))

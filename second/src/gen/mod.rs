@@ -13,6 +13,7 @@ pub mod faults;
 pub mod files;
 pub mod lookups;
 pub mod mixture;
+pub mod narrow;
 pub mod positions;
 pub mod records;
 pub mod sound;
@@ -186,7 +187,6 @@ fn in_turn(lists: Vec<Vec<Line>>) -> Vec<Line> {
 #[derive(Clone, Copy, Debug, PartialEq, Eq, PartialOrd, Ord)]
 pub enum Outcome {
     Ok,
-    Silent,
     Refused(u8),
     Bad,
 }
@@ -197,7 +197,6 @@ impl Outcome {
         let mut words = answer.split(' ');
         match words.next() {
             Some("ok") => Outcome::Ok,
-            Some("silent") => Outcome::Silent,
             Some("refused") => {
                 Outcome::Refused(words.next().and_then(|n| n.parse().ok()).unwrap_or(0))
             }
@@ -210,7 +209,6 @@ impl std::fmt::Display for Outcome {
     fn fmt(&self, out: &mut std::fmt::Formatter) -> std::fmt::Result {
         match self {
             Outcome::Ok => out.write_str("ok"),
-            Outcome::Silent => out.write_str("silent"),
             Outcome::Refused(number) => write!(out, "{number}"),
             Outcome::Bad => out.write_str("bad"),
         }

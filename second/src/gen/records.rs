@@ -3,6 +3,7 @@
 use crate::gen::bodies::seg_text;
 use crate::gen::dice::Dice;
 use crate::gen::faults::{further_texts, long_text, principal_texts};
+use crate::gen::narrow;
 use crate::gen::positions::{self, number, number_somehow, some_position, Order, ANY_POSITION};
 use crate::gen::sound::{plain, record, records, CNTT_VALUES};
 use crate::gen::spell::{rec, write_line, Line};
@@ -14,12 +15,12 @@ const CNTT_BOUNDS: [u8; 14] = [
     0x00, 0x01, 0x03, 0x04, 0x05, 0x06, 0x0A, 0x0B, 0x7F, 0x80, 0x81, 0x8A, 0x8B, 0xFF,
 ];
 
-fn place_line(record: &Record, root: u8, note: u8) -> Line {
+pub fn place_line(record: &Record, root: u8, note: u8) -> Line {
     format!("place {} {root} {note}", rec(record)).into()
 }
 
 /// A plain record of channel 3 with some bytes set.
-fn with(changes: &[(usize, u8)]) -> Record {
+pub fn with(changes: &[(usize, u8)]) -> Record {
     let mut record = plain(3);
     for &(index, value) in changes {
         record.bytes[index] = value;
@@ -63,10 +64,12 @@ pub fn place(dice: &mut Dice) -> Vec<Line> {
             lines.push(place_line(&with(&[(index, value)]), 2, 61));
         }
     }
+    lines.extend(narrow::place());
     lines
 }
 
-/// 16 before 9 before 17 before silence; the first bad byte, the Cntt counted as byte 21.
+/// 16 before 9 before 17, with limits that no octave lies within too; the first bad byte, the
+/// Cntt counted as byte 21.
 fn place_orders() -> Vec<Line> {
     let mut lines = Vec::new();
     let chords = [
@@ -92,9 +95,9 @@ fn place_orders() -> Vec<Line> {
             lines.push(place_line(&record, root, note));
         }
     }
-    let silent_fixed = with(&[(20, 1), (23, 9), (24, 8)]);
+    let crossed_fixed = with(&[(20, 1), (23, 9), (24, 8)]);
     let bad_fixed = with(&[(20, 1), (25, 6), (23, 9), (24, 8)]);
-    lines.push(place_line(&silent_fixed, 0, 60));
+    lines.push(place_line(&crossed_fixed, 0, 60));
     lines.push(place_line(&bad_fixed, 0, 60));
     for (first, second) in [(0, 25), (9, 18), (20, 21), (21, 22), (19, 20), (22, 24)] {
         let both = with(&[(first, 0xFF), (second, 0xFF)]);

@@ -2,6 +2,7 @@
 #![allow(dead_code)]
 
 pub mod chunks;
+pub mod note_kinds;
 pub mod place_kinds;
 
 use second::record::Record;

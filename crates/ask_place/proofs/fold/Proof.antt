@@ -8,7 +8,7 @@ use mir.Syntax.{w32}
 use mir.Val.{toZ, ofZ}
 use Rattle.ask_place.specs.Octaves.{remainder}
 use Rattle.ask_place.proofs.Signed.{fits, u8-reads, reads-back, mag-sub}
-use Rattle.ask_place.proofs.Folding.{remainder-small, fold-below, fold-above, fold-inside}
+use Rattle.ask_place.proofs.Folding.{remainder-small, rest-reads, past-fits, past-near, past-rest, fold-below, fold-above, fold-inside}
 use borrow.Author.Needs.{needs}
 use Rattle.ask_place.proofs.fold.Statement.{statement}
 use Rattle.ask_place.proofs.fold.Tie as tie
@@ -30,24 +30,14 @@ module _ (c : tie.Start) where
   abbrev past-high : ℤ
   past-high = pos (c .args .high) -ℤ c .args .value
 
-  low-near : mag past-low < 8192
-  low-near = omega (arith, mag-sub (c .args .value) (pos (c .args .low)))
-
   high-near : mag past-high < 8192
   high-near = omega (arith, mag-sub (pos (c .args .high)) (c .args .value))
-
-  low-reads : toZ w32 (ofZ w32 past-low) ≡ past-low
-  low-reads = reads-back past-low (omega (arith, low-near))
 
   high-reads : toZ w32 (ofZ w32 past-high) ≡ past-high
   high-reads = reads-back past-high (omega (arith, high-near))
 
--- a remainder that a call gave reads back
-rest-reads : (x m : ℤ) → m ≡ pos (remainder x) → toZ w32 (ofZ w32 m) ≡ pos (remainder x)
-rest-reads x m e = rw e (reads-back (pos (remainder x)) (omega (arith, remainder-small x)))
-
 raised : (c : tie.After-octave-remainder) → toZ w32 (ofZ w32 (c .octave-remainder .result)) ≡ pos (remainder (past-low (c .before .before)))
-raised c = let s = c .before .before in rest-reads (past-low s) (c .octave-remainder .result) (rw (v-reads s, l-reads s, low-reads s) at (c .octave-remainder .ensures))
+raised c = let a = c .before .before .args in past-rest (a .value) (a .low) (omega arith) (omega arith) (c .octave-remainder .result) (c .octave-remainder .ensures)
 
 lowered : (c : tie.After-octave-remainder2) → toZ w32 (ofZ w32 (c .octave-remainder2 .result)) ≡ pos (remainder (past-high (c .before .before .before)))
 lowered c = let s = c .before .before .before in rest-reads (past-high s) (c .octave-remainder2 .result) (rw (v-reads s, h-reads s, high-reads s) at (c .octave-remainder2 .ensures))
@@ -59,6 +49,12 @@ raised-near c = omega (arith, remainder-small (past-low c))
 lowered-near : (c : tie.Start) → mag (pos (c .args .high) -ℤ pos (remainder (past-high c))) < 65536
 lowered-near c = omega (arith, remainder-small (past-high c), mag-sub (pos (c .args .high)) (pos (remainder (past-high c))))
 
+sub-octave-remainder : tie.Need-sub-octave-remainder
+sub-octave-remainder c = let a = c .before .args in past-fits (a .value) (a .low) (omega arith) (omega arith)
+
+octave-remainder-requires : tie.Need-octave-remainder-requires
+octave-remainder-requires c κs = let a = c .before .args in past-near (a .value) (a .low) (omega arith) (omega arith)
+
 add-result : tie.Need-add-result
 add-result c =
     let s = c .before .before in
@@ -69,6 +65,12 @@ returns c =
     let s = c .before .before in
     rw (l-reads s, raised c, reads-back (pos (s .args .low) +ℤ pos (remainder (past-low s))) (raised-near s))
     (sym (fold-below (s .args .value) (s .args .low) (s .args .high) (rw (v-reads s, l-reads s) at (c .before .if1 .taken))))
+
+sub-octave-remainder-2 : tie.Need-sub-octave-remainder-2
+sub-octave-remainder-2 c = let s = c .before .before in rw (v-reads s, h-reads s) (fits (past-high s) (omega (arith, high-near s)))
+
+octave-remainder-requires-2 : tie.Need-octave-remainder-requires-2
+octave-remainder-requires-2 c κs = let s = c .before .before in rw (v-reads s, h-reads s, high-reads s) (high-near s)
 
 sub-result : tie.Need-sub-result
 sub-result c =
@@ -93,12 +95,12 @@ fold-spec =
     (tie.spec
     (λ c. search needs)
     (λ c. search needs)
-    (λ c. let s = c .before in rw (v-reads s, l-reads s) (fits (past-low s) (omega (arith, low-near s))))
-    (λ c κs. let s = c .before in rw (v-reads s, l-reads s, low-reads s) (low-near s))
+    sub-octave-remainder
+    octave-remainder-requires
     add-result
     returns
-    (λ c. let s = c .before .before in rw (v-reads s, h-reads s) (fits (past-high s) (omega (arith, high-near s))))
-    (λ c κs. let s = c .before .before in rw (v-reads s, h-reads s, high-reads s) (high-near s))
+    sub-octave-remainder-2
+    octave-remainder-requires-2
     sub-result
     returns-2
     returns-3)

@@ -1,17 +1,27 @@
--- The folded value's bits read back, and what lies within the limits is a byte; one law for each way out.
-use mathlib.Core.Path.{_≡_, _∙_, ap}
+-- The bits of the folded value and of the nearest octave read back, and each is a byte; one law for each way out.
+use mathlib.Core.Path.{_≡_, sym, _∙_, ap}
+use Prim.Native.Nat.{ℕ, _≤_}
 use native.Mathlib.Omega.{arith}
+use mathlib.Core.Logic.{inl, inr}
+use lib.Dec.{T}
 use lib.IntN.{ℤ, pos, natAbs}
-use mir.Syntax.{w32}
-use mir.Val.{toZ, ofZ}
-use Rattle.layout.specs.Answers.{granted}
-use Rattle.layout.specs.Place.{folded, note, placed}
+use lib.Signed.{nonNeg}
+use mir.Syntax.{w8, w32}
+use mir.Val.{Fits, toZ, ofZ}
+use Rattle.layout.specs.Place.{folded, nearest, heard}
 use Rattle.ask_place.proofs.Signed.{u8-reads, reads-back}
-use Rattle.ask_place.proofs.Ways.{answers}
 use Rattle.ask_place.proofs.Folding.{folded-small, heard-low, heard-high, heard-note, within-byte}
+use Rattle.ask_place.proofs.Nearing.{nearest-is-nearest}
 use borrow.Author.Needs.{needs}
 use Rattle.ask_place.proofs.hear.Statement.{statement}
 use Rattle.ask_place.proofs.hear.Tie as tie
+
+-- a nearest octave that a call gave reads back, and is a byte
+near-reads : (v : ℤ) (low : ℕ) (n : ℤ) → low ≤ 127 → n ≡ pos (nearest v low) → toZ w32 (ofZ w32 n) ≡ pos (nearest v low)
+near-reads v low n h e = rw e (reads-back (pos (nearest v low)) (let z = nearest-is-nearest v low h .note in omega arith))
+
+near-byte : (v : ℤ) (low : ℕ) (n : ℤ) → low ≤ 127 → n ≡ pos (nearest v low) → T (nonNeg (toZ w32 (ofZ w32 n))) × Fits w8 (natAbs (toZ w32 (ofZ w32 n)))
+near-byte v low n h e = rw (near-reads v low n h e) (tt, record { fits = let z = nearest-is-nearest v low h .note in omega arith })
 
 module _ (c : tie.After-fold) where
   is-folded : c .fold .result ≡ folded (c .before .args .value) (c .before .args .low) (c .before .args .high)
@@ -28,35 +38,39 @@ module _ (c : tie.After-fold) where
   h-reads : toZ w32 (c .before .args .high) ≡ pos (c .before .args .high)
   h-reads = u8-reads (c .before .args .high) (omega arith)
 
+module _ (c : tie.After-nearest-to) where
+  near : c .nearest-to .result ≡ pos (nearest (c .before .before .before .args .value) (c .before .before .before .args .low))
+  near = rw (reads-back (c .before .before .before .args .value) (omega arith)) at (c .nearest-to .ensures)
+
+  -- the folded value lies past one of the limits
+  past : heard (c .before .before .before .args .value) (c .before .before .before .args .low) (c .before .before .before .args .high) ≡ nearest (c .before .before .before .args .value) (c .before .before .before .args .low)
+  past =
+      let f = c .before .before in
+      let a = f .before .args in
+      elim (c .before .if1 .came) [
+        | inl t ↦ heard-low (a .value) (a .low) (a .high) (f .fold .result) (is-folded f) (rw (n-reads f, l-reads f) at (t .taken))
+        | inr t ↦ heard-high (a .value) (a .low) (a .high) (f .fold .result) (is-folded f) (rw (n-reads f, l-reads f) at (t .0 .left)) (rw (n-reads f, h-reads f) at (t .1 .taken))
+      ]
+
+cast-result : tie.Need-cast-result
+cast-result c = let a = c .before .before .before .args in near-byte (a .value) (a .low) (c .nearest-to .result) (omega arith) (near c)
+
 returns : tie.Need-returns
-returns c =
-    let f = c .before .before in
-    let a = f .before .args in
-    c .silence .ensures ∙ answers (ap granted (heard-low (a .value) (a .low) (a .high) (f .fold .result) (is-folded f) (rw (n-reads f, l-reads f) at (c .before .if1 .taken))))
+returns c = let a = c .before .before .before .args in ap natAbs (near-reads (a .value) (a .low) (c .nearest-to .result) (omega arith) (near c)) ∙ sym (past c)
 
-returns-2 : tie.Need-returns-2
-returns-2 c =
-    let f = c .before .before .before in
-    let a = f .before .args in
-    c .silence2 .ensures
-    ∙ answers (ap granted (heard-high (a .value) (a .low) (a .high) (f .fold .result) (is-folded f)
-    (rw (n-reads f, l-reads f) at (c .before .before .if1 .left)) (rw (n-reads f, h-reads f) at (c .before .if2 .taken))))
-
-cast-note : tie.Need-cast-note
-cast-note c =
+cast-result-2 : tie.Need-cast-result-2
+cast-result-2 c =
     let f = c .before .before in
     let a = f .before .args in
     let w = within-byte (f .fold .result) (a .low) (a .high) (omega arith) (rw (n-reads f, l-reads f) at (c .before .if1 .left)) (rw (n-reads f, h-reads f) at (c .if2 .left)) in
     rw (n-reads f) (w .0, record { fits = w .1 })
 
-returns-3 : tie.Need-returns-3
-unfolding placed
-returns-3 c =
+returns-2 : tie.Need-returns-2
+returns-2 c =
     let f = c .before .before in
     let a = f .before .args in
-    ap (λ (z : ℤ). placed (granted (note (natAbs z)))) (n-reads f)
-    ∙ answers (ap granted (heard-note (a .value) (a .low) (a .high) (f .fold .result) (is-folded f)
-    (rw (n-reads f, l-reads f) at (c .before .if1 .left)) (rw (n-reads f, h-reads f) at (c .if2 .left))))
+    ap natAbs (n-reads f)
+    ∙ sym (heard-note (a .value) (a .low) (a .high) (f .fold .result) (is-folded f) (rw (n-reads f, l-reads f) at (c .before .if1 .left)) (rw (n-reads f, h-reads f) at (c .if2 .left)))
 
 pub hear-spec : {M : Type 1} → statement M
 hear-spec =
@@ -64,10 +78,9 @@ hear-spec =
     (tie.spec
     (λ c κs. search needs)
     (λ c. search needs)
-    (λ c κs. search needs)
-    returns
     (λ c. search needs)
     (λ c κs. search needs)
-    returns-2
-    cast-note
-    returns-3)
+    cast-result
+    returns
+    cast-result-2
+    returns-2)
