@@ -9,7 +9,7 @@ use Rattle.layout.specs.Lists.{All}
 use Rattle.layout.specs.Body.{bodyLimit}
 use Rattle.layout.specs.Salvage.{Entry, salvage}
 use Rattle.layout.specs.Promises.{Salvaged}
-use Rattle.law_salvage.specs.Salvage.{Covers, entryBytes, ReadsAsOne, GroupsBody, NoneCompleted, groupsFrom, moved, movedByChange, Listed}
+use Rattle.law_salvage.specs.Salvage.{Covers, entryBytes, ReadsAsOne, GroupsBody, NoneCompleted, groupsFrom, moved, movedByChange, Stretch, standing, replaced, Parted, groupsWere, bytesAre, NoneCompletedIn, listFrom, Listed}
 use Rattle.demands.specs.Examples.{M, N, entry}
 
 -- ---- "Take a section body of sound groups .. Put other bytes, of any number, in place of one group"
@@ -53,6 +53,24 @@ DamageStaysLocalAtTheCall =
     → (lent now : List ℕ) (r : Counted) → length (newBody before old after new) ≤ bodyLimit → 3 * length (newList before old after new) ≤ length lent
     → Salvaged (newBody before old after new) lent r now → Listed (newList before old after new) lent r now
 
+-- ---- document 02, §10: "Prove demand 3 for any choice of groups replaced at once, under the same limits"
+
+-- the groups that stand are listed as before, each where it then stands, and each run as its new bytes alone ..
+abbrev pub SeveralDamagesStayLocal : Type 0
+SeveralDamagesStayLocal =
+    (stretches : List Stretch) → Parted stretches → GroupsBody (groupsWere stretches) → NoneCompletedIn [] stretches → salvage (bytesAre stretches) ≡ listFrom 0 stretches
+
+-- .. and a caller reads it in the lent list
+abbrev pub SeveralDamagesStayLocalAtTheCall : Type 0
+SeveralDamagesStayLocalAtTheCall =
+    (stretches : List Stretch) → Parted stretches → GroupsBody (groupsWere stretches) → NoneCompletedIn [] stretches
+    → (lent now : List ℕ) (r : Counted) → length (bytesAre stretches) ≤ bodyLimit → 3 * length (listFrom 0 stretches) ≤ length lent
+    → Salvaged (bytesAre stretches) lent r now → Listed (listFrom 0 stretches) lent r now
+
+-- "salvaging the bytes of each entry by itself lists that entry alone, with the same kind and place 0"
+abbrev pub EachEntryAlone : Type 0
+EachEntryAlone = (s : List ℕ) → All (λ (e : Entry). salvage (entryBytes s e) ≡ entry 0 (e .size) (e .kind) ∷ []) (salvage s)
+
 -- ---- "In every salvage list .."
 
 -- "the entries cover each byte once, in order": from place 0 to the body's length they follow one another, and none is empty ..
@@ -79,3 +97,14 @@ pub record ExampleNine : Type 0 where
   pub was : oldList (M ∷ []) M (N ∷ []) ≡ entry 0 22 0 ∷ entry 22 22 0 ∷ entry 44 22 0 ∷ []
   pub now : newList (M ∷ []) M (N ∷ []) (set M 0 0x44) ≡ entry 0 22 0 ∷ entry 22 22 6 ∷ entry 44 22 0 ∷ []
   pub listed : salvage (M ++ (set M 0 0x44 ++ N)) ≡ newList (M ∷ []) M (N ∷ []) (set M 0 0x44)
+
+-- ---- two damaged groups: M with its first byte 44H in place of the first, M with group length 0FH in place of the third, and N stands between them
+
+abbrev pub two-damaged : List Stretch
+two-damaged = replaced (M ∷ []) (set M 0 0x44) ∷ standing N [] ∷ replaced (M ∷ []) (set M 7 0x0F) ∷ []
+
+pub record TwoDamaged : Type 0 where
+  pub parted : Parted two-damaged
+  pub groups : GroupsBody (groupsWere two-damaged)
+  pub none : NoneCompletedIn [] two-damaged
+  pub listed : salvage (bytesAre two-damaged) ≡ entry 0 22 6 ∷ entry 22 22 0 ∷ entry 44 22 2 ∷ []

@@ -81,7 +81,7 @@ parts-reasons s =
 
 entry-reasons : (s : List ℕ) → All (λ (e : Entry). Reason (entryBytes s e) (e .kind)) (salvage s)
 unfolding salvage
-entry-reasons s = rw parts-joined at (entries-all Reason [] (parts s) (parts-reasons s))
+entry-reasons s = rw parts-joined at (entries-all (λ (bytes : List ℕ) (size kind : ℕ). Reason bytes kind) [] (parts s) (parts-reasons s))
 
 -- a kind other than 0 is the refusal of the entry's bytes
 pub kinds-refused : (s : List ℕ) → All (λ (e : Entry). (e .kind ≡ 0 → ⊥) → EntryRefused (entryBytes s e) (e .kind)) (salvage s)

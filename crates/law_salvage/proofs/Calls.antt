@@ -3,7 +3,7 @@ use Prim.Native.Nat.{ℕ, _*_, _≤_}
 use native.Mathlib.Omega.{arith}
 use mathlib.Core.Path.{_≡_, refl}
 use mathlib.Core.Bool.{Bool, true, false, cond}
-use mathlib.Core.List.{List, _∷_, _++_, flatten}
+use mathlib.Core.List.{List, [], _∷_, _++_, flatten}
 use lib.Dec.{ltb}
 use lib.ListN.{length, drop}
 use lib.Seq.{take-at, drop-at}
@@ -13,7 +13,8 @@ use Rattle.layout.specs.Answers.{refused, granted, numberOf, placeOf, valueOr, 
 use Rattle.layout.specs.Salvage.{Entry, salvage, listNumbers, salvaged}
 use Rattle.layout.specs.Promises.{Salvaged}
 use Rattle.read_salvage.proofs.Room.{numbers-length}
-use Rattle.law_salvage.specs.Salvage.{GroupsBody, NoneCompleted, Listed}
+use Rattle.law_salvage.specs.Salvage.{GroupsBody, NoneCompleted, Stretch, Parted, groupsWere, bytesAre, NoneCompletedIn, listFrom, Listed}
+use Rattle.law_salvage.proofs.Stretches.{damages-local}
 use Rattle.law_salvage.proofs.Damage.{damaged, damage-local}
 
 module _ (body lent now : List ℕ) (r : Counted) where
@@ -49,10 +50,18 @@ module _ (body lent now : List ℕ) (r : Counted) where
           let room : 3 * length (salvage body) ≤ length lent = rw (numbers-length (salvage body)) at (ltb-false (length lent) (length (listNumbers (salvage body))) f) in
           (l, call-lists l room p)
 
--- the list with new bytes in place of one group, as a caller reads it
+-- what the list is known to be, a caller reads
+known-lists : (body : List ℕ) (entries : List Entry) → salvage body ≡ entries
+    → (lent now : List ℕ) (r : Counted) → length body ≤ 32768 → 3 * length entries ≤ length lent → Salvaged body lent r now → Listed entries lent r now
+known-lists body entries q lent now r l room p = rw q at (call-lists body lent now r l (rw q room) p)
+
+-- the list with new bytes in place of any choice of groups
+pub damages-local-call : (ss : List Stretch) → Parted ss → GroupsBody (groupsWere ss) → NoneCompletedIn [] ss
+    → (lent now : List ℕ) (r : Counted) → length (bytesAre ss) ≤ 32768 → 3 * length (listFrom 0 ss) ≤ length lent → Salvaged (bytesAre ss) lent r now → Listed (listFrom 0 ss) lent r now
+damages-local-call ss p b n = known-lists (bytesAre ss) (listFrom 0 ss) (damages-local ss p b n)
+
+-- .. and of one group
 pub damage-local-call : (before : List (List ℕ)) (old : List ℕ) (after : List (List ℕ)) (new : List ℕ) → GroupsBody (before ++ old ∷ after) → NoneCompleted (flatten before) new
     → (lent now : List ℕ) (r : Counted) → length (flatten before ++ (new ++ flatten after)) ≤ 32768 → 3 * length (damaged before old after new) ≤ length lent
     → Salvaged (flatten before ++ (new ++ flatten after)) lent r now → Listed (damaged before old after new) lent r now
-damage-local-call before old after new b n lent now r l room p =
-    let q = damage-local before old after new b n in
-    rw q at (call-lists (flatten before ++ (new ++ flatten after)) lent now r l (rw q room) p)
+damage-local-call before old after new b n = known-lists (flatten before ++ (new ++ flatten after)) (damaged before old after new) (damage-local before old after new b n)

@@ -2,6 +2,7 @@ pub mod Places
 pub mod AsBody
 pub mod Entries
 pub mod Starts
+pub mod Stretches
 pub mod Damage
 pub mod Calls
 pub mod Tested

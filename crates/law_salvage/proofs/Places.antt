@@ -21,6 +21,11 @@ unfolding entriesFrom groupsFrom
 entries-groups i [] = refl
 entries-groups i (g ∷ gs) = rw (entries-groups (i + length g) gs)
 
+pub groups-append : (i : ℕ) (gs hs : List (List ℕ)) → groupsFrom i (gs ++ hs) ≡ groupsFrom i gs ++ groupsFrom (i + length (flatten gs)) hs
+unfolding groupsFrom flatten
+groups-append i [] hs = rw add-zero
+groups-append i (g ∷ gs) hs = rw (groups-append (i + length g) gs hs, length-append, add-assoc)
+
 -- parts that begin at k and not at 0 are moved on by k
 pub entries-moved : (i k : ℕ) (ps : List Part) → entriesFrom (i + k) ps ≡ moved k (entriesFrom i ps)
 unfolding entriesFrom moved
@@ -29,16 +34,16 @@ entries-moved i k (p ∷ ps) =
     let q : i + k + length (p .bytes) ≡ i + length (p .bytes) + k = omega arith in
     rw (q, entries-moved (i + length (p .bytes)) k ps)
 
--- parts behind o bytes, behind n bytes instead
-pub entries-changed : (i o n : ℕ) (ps : List Part) → entriesFrom (i + n) ps ≡ movedByChange o n (entriesFrom (i + o) ps)
-unfolding entriesFrom movedByChange
-entries-changed i o n [] = refl
-entries-changed i o n (p ∷ ps) =
-    let k : ℕ = length (p .bytes) in
+-- groups behind o bytes, behind n bytes instead
+pub groups-changed : (i o n : ℕ) (gs : List (List ℕ)) → groupsFrom (i + n) gs ≡ movedByChange o n (groupsFrom (i + o) gs)
+unfolding groupsFrom movedByChange
+groups-changed i o n [] = refl
+groups-changed i o n (g ∷ gs) =
+    let k : ℕ = length g in
     let a : i + o + n - o ≡ i + n = omega arith in
     let b : i + n + k ≡ (i + k) + n = omega arith in
     let c : i + o + k ≡ (i + k) + o = omega arith in
-    rw (a, b, c, entries-changed (i + k) o n ps)
+    rw (a, b, c, groups-changed (i + k) o n gs)
 
 -- parts that are not empty cover what they join to
 pub entries-cover : (i : ℕ) (ps : List Part) → All (λ (p : Part). 0 < length (p .bytes)) ps → Covers i (entriesFrom i ps) (i + length (joined ps))
@@ -54,9 +59,9 @@ entries-bytes pre (p ∷ ps) =
     let r = entries-bytes (pre ++ p .bytes) ps in
     rw (drop-append-seam pre (p .bytes ++ joined ps), take-append-seam (p .bytes) (joined ps), rw (length-append, append-assoc) at r)
 
--- what holds of each part holds of each entry's bytes and kind
-pub entries-all : (P : List ℕ → ℕ → Type 0) (pre : List ℕ) (ps : List Part) → All (λ (p : Part). P (p .bytes) (p .kind)) ps
-    → All (λ (e : Entry). P (entryBytes (pre ++ joined ps) e) (e .kind)) (entriesFrom (length pre) ps)
+-- what holds of each part and its length holds of each entry's bytes, size and kind
+pub entries-all : (P : List ℕ → ℕ → ℕ → Type 0) (pre : List ℕ) (ps : List Part) → All (λ (p : Part). P (p .bytes) (length (p .bytes)) (p .kind)) ps
+    → All (λ (e : Entry). P (entryBytes (pre ++ joined ps) e) (e .size) (e .kind)) (entriesFrom (length pre) ps)
 unfolding entriesFrom flatten entryBytes
 entries-all P pre [] h = tt
 entries-all P pre (p ∷ ps) h = (

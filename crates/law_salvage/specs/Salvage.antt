@@ -11,7 +11,7 @@ use Rattle.layout.specs.declared.turn.Judged.the-variants.{Sound}
 use Rattle.layout.specs.declared.turn.Run.the-variants.{Ended}
 use Rattle.layout.specs.Group.{groupSize, groupAt}
 use Rattle.layout.specs.Body.{bodyRun}
-use Rattle.layout.specs.Salvage.{cseg, Entry, listNumbers}
+use Rattle.layout.specs.Salvage.{cseg, Entry, salvage, listNumbers}
 use Rattle.layout.specs.Lists.{All}
 
 -- ---- every list
@@ -70,6 +70,45 @@ moved k (e ∷ es) = record { place = e .place + k; size = e .size; kind = e .ki
 unfoldable pub movedByChange : ℕ → ℕ → List Entry → List Entry
 movedByChange old new [] = []
 movedByChange old new (e ∷ es) = record { place = e .place + new - old; size = e .size; kind = e .kind } ∷ movedByChange old new es
+
+-- ---- several groups replaced at once (document 02, §10): a body as stretches
+
+-- groups that stand, one at least; or a run of groups, and the new bytes in their place, which may be none
+pub data Stretch : Type 0 where
+  standing : List ℕ → List (List ℕ) → Stretch
+  replaced : List (List ℕ) → List ℕ → Stretch
+
+-- "replaced neighbours count as one run and their new bytes are taken together": no two runs without a group that stands between them
+abbrev pub Parted : List Stretch → Type 0
+Parted [] = Unit {0}
+Parted (standing g gs ∷ ss) = Parted ss
+Parted (replaced old new ∷ []) = Unit {0}
+Parted (replaced old new ∷ standing g gs ∷ ss) = Parted ss
+Parted (replaced old new ∷ replaced old′ new′ ∷ ss) = ⊥
+
+-- the groups that there were
+unfoldable pub groupsWere : List Stretch → List (List ℕ)
+groupsWere [] = []
+groupsWere (standing g gs ∷ ss) = g ∷ (gs ++ groupsWere ss)
+groupsWere (replaced old new ∷ ss) = old ++ groupsWere ss
+
+-- the bytes that there are then
+unfoldable pub bytesAre : List Stretch → List ℕ
+bytesAre [] = []
+bytesAre (standing g gs ∷ ss) = flatten (g ∷ gs) ++ bytesAre ss
+bytesAre (replaced old new ∷ ss) = new ++ bytesAre ss
+
+-- "the condition about CSEG holds at each run's start": no CSEG begun before its new bytes, behind these bytes, is completed by them
+abbrev pub NoneCompletedIn : List ℕ → List Stretch → Type 0
+NoneCompletedIn before [] = Unit {0}
+NoneCompletedIn before (standing g gs ∷ ss) = NoneCompletedIn (before ++ flatten (g ∷ gs)) ss
+NoneCompletedIn before (replaced old new ∷ ss) = NoneCompleted before new × NoneCompletedIn (before ++ new) ss
+
+-- the list from place i on: every group that stands as its own entry, and of each run exactly what its new bytes alone would list, moved to where they stand
+unfoldable pub listFrom : ℕ → List Stretch → List Entry
+listFrom i [] = []
+listFrom i (standing g gs ∷ ss) = groupsFrom i (g ∷ gs) ++ listFrom (i + length (flatten (g ∷ gs))) ss
+listFrom i (replaced old new ∷ ss) = moved i (salvage new) ++ listFrom (i + length new) ss
 
 -- ---- the call
 
