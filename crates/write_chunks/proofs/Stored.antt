@@ -3,8 +3,8 @@ use Prim.Native.Nat.{ℕ, _+_, _-_, _≤_, _<_}
 use mathlib.Core.Path.{_≡_, refl, sym, _∙_, ap, ap₂}
 use mathlib.Core.List.{List, [], _∷_, _++_, append-assoc}
 use native.Mathlib.Omega.{arith}
-use lib.ListN.{length, getD, set, drop, length-append}
-use lib.Seq.{drop-cons, set-append-seam}
+use lib.ListN.{length, getD, set, take, drop, length-append, take-append-drop}
+use lib.Seq.{drop-cons, drop-at, set-append-seam, length-take-le}
 use borrow.Rule.Slice.PartMut.{midOf, putMid}
 use Rattle.layout.specs.declared.record.Record.{Record}
 use Rattle.layout.specs.declared.record.SecondTable.the-variants.{Value}
@@ -66,13 +66,19 @@ module _ (old xs : List ℕ) (h : 8 ≤ length xs) where
       headed 0x43534547 size old xs h q (chunk Sdec text) ys (8 + length text) y w
       ∙ (ap (λ (t : List ℕ). t ++ (four size ++ (chunk Sdec text ++ drop (8 + (8 + length text)) old))) cseg-tag ∙ ap (λ (k : ℕ). CSEG ++ (four size ++ (chunk Sdec text ++ drop k old))) z)
 
-  pub ctab-stored : (e : Edition) (t n : ℕ) (b ys : List ℕ) → four t ≡ tagOf e → n ≡ size e → length b ≡ held e → xs ≡ four t ++ (four n ++ drop 8 old)
-      → ys ≡ b ++ (closing e ++ drop (size e) (midOf 8 (length xs - 8) xs)) → putMid 8 (length xs - 8) xs ys ≡ chunk (tagOf e) (b ++ closing e) ++ drop (8 + size e) old
-  ctab-stored e t n b ys tag is z q w =
-      let f : List ℕ = b ++ closing e in
-      let l : length f ≡ size e = closed-length e b z in
-      headed t n old xs h q f ys (size e) l (w ∙ sym (append-assoc b (closing e) (drop (size e) (midOf 8 (length xs - 8) xs))))
-      ∙ (ap₂ (λ (t : List ℕ) (k : ℕ). t ++ (four k ++ (f ++ drop (8 + size e) old))) tag (is ∙ sym l) ∙ sym (chunk-then (tagOf e) f (drop (8 + size e) old)))
+-- a record put behind the room of its header, and then the header
+pub ctab-stored : (e : Edition) (t n : ℕ) (old b ys last : List ℕ) → 8 ≤ length old → four t ≡ tagOf e → n ≡ size e → length b ≡ held e
+    → ys ≡ b ++ (closing e ++ drop (size e) (midOf 8 (length old - 8) old)) → last ≡ four t ++ (four n ++ drop 8 (putMid 8 (length old - 8) old ys))
+    → last ≡ chunk (tagOf e) (b ++ closing e) ++ drop (8 + size e) old
+ctab-stored e t n old b ys last h tag is z w q =
+    let f : List ℕ = b ++ closing e in
+    let l : length f ≡ size e = closed-length e b z in
+    let eight : length (take 8 old) ≡ 8 = length-take-le 8 old h in
+    let rest : List ℕ = f ++ drop (8 + size e) old in
+    let p : putMid 8 (length old - 8) old ys ≡ take 8 old ++ rest =
+    tail-written (take 8 old) old old 8 eight h (sym (take-append-drop 8 old)) f ys (size e) l (w ∙ sym (append-assoc b (closing e) (drop (size e) (midOf 8 (length old - 8) old)))) in
+    q ∙ (ap (λ (x : List ℕ). four t ++ (four n ++ x)) (ap (drop 8) p ∙ drop-at (take 8 old) rest 8 eight)
+    ∙ (ap₂ (λ (t : List ℕ) (k : ℕ). t ++ (four k ++ rest)) tag (is ∙ sym l) ∙ sym (chunk-then (tagOf e) f (drop (8 + size e) old))))
 
 -- a Cntt's two bytes stored behind its header
 pub cntt-stored : (channel v : ℕ) (old xs : List ℕ) → 10 ≤ length old → xs ≡ four 0x436E7474 ++ (four 2 ++ drop 8 old) → set (set xs 8 channel) 9 v ≡ cnttBytes channel (Value v) ++ drop 10 old

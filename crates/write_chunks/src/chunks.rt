@@ -41,8 +41,9 @@ pub fn put_ctab(edition: Edition, out: &mut [u8], b: &[u8])
     requires { ⌜ (length (now b) ≡ held edition) × (8 + size edition ≤ length (now out)) ⌝ }
     ensures { λ _. ⌜ now (out .exit) ≡ chunk (tagOf edition) (now (b .entry) ++ closing edition) ++ drop (8 + size edition) (now (out .entry)) ⌝ }
 {
-    put_head(out, tag_of(edition), size_of(edition));
+    // The record first: where nothing is stored between the bytes taken from a row and the bytes put, they go over in one step.
     put_held(edition, &mut out[8..], b);
+    put_head(out, tag_of(edition), size_of(edition));
 }
 
 // A Cntt: a source channel and a table value behind its header.
