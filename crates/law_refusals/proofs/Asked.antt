@@ -24,11 +24,12 @@ use Rattle.layout.specs.Voice.{voiceSpan, voiceSpanAt}
 use Rattle.layout.specs.Plays.{playing, whoPlays}
 use Rattle.layout.specs.Edit.{firstEdited, edited}
 use Rattle.layout.proofs.Scans.{first-passed}
+use Rattle.layout.proofs.Choices.{either}
 use Rattle.law_refusals.specs.Contents.{FirstSuch}
 use Rattle.law_refusals.specs.Body.{BodyRefused, HasGroups}
 use Rattle.law_refusals.specs.After.{HasGroup, GroupAsked, of-body, no-group, RecordsAsked, of-group, no-room, NoPart, PartAsked, part-of-body, no-part}
 use Rattle.law_refusals.specs.After.{PlayersAsked, players-of-body, root-over, type-over, no-players, ChannelAsked, channel-of-group, no-channel, HasChannel, EditAsked, edit-of-channel, other-source, new-byte}
-use Rattle.law_refusals.proofs.Told.{RunTold, AnswerTold, if-told, after-told}
+use Rattle.law_refusals.proofs.Told.{RunTold, AnswerTold, after-told}
 use Rattle.law_refusals.proofs.Heads.{first-such}
 use Rattle.layout.proofs.Seen.{ctab-seen, ctab-unseen}
 use Rattle.law_refusals.proofs.Bodies.{body-told, has-groups}
@@ -51,7 +52,7 @@ module _ {A : Type 0} (P : ℕ → ℕ → Type 0) (s : List ℕ) where
   unfolding ofGroup
   of-group-told g f ask tell =
       asked-told (λ number place h. f number place (of-body number place h)) (λ n. cond (leb n g) (refused 16 0) ask) (λ n groups.
-      if-told (AnswerTold P) (leb n g) _ _ (λ e. f 16 0 (no-group n groups (leb-true _ _ e)))
+      either (AnswerTold P) (leb n g) _ _ (λ e. f 16 0 (no-group n groups (leb-true _ _ e)))
       (λ e. tell (record { count = n; groups = groups; there = leb-false _ _ e })))
 
   -- what is asked of the record of a source channel in it
@@ -63,7 +64,7 @@ module _ {A : Type 0} (P : ℕ → ℕ → Type 0) (s : List ℕ) where
       let i : ℕ = ctabOf (x .edition) s (x .ctabs) (x .records) channel in
       of-group-told g (λ number place h. f number place (channel-of-group number place h))
       (cond (leb (x .records) i) (refused 15 0) (ask (rowOf x i))) (λ group.
-      if-told (AnswerTold P) (leb (x .records) i) _ _
+      either (AnswerTold P) (leb (x .records) i) _ _
       (λ e. f 15 0 (no-channel group (ctab-unseen (x .edition) s (x .ctabs) (x .records) channel (leb-true _ _ e))))
       (λ e.
       let l = leb-false (x .records) i e in
@@ -78,7 +79,7 @@ module _ (s : List ℕ) (n : ℕ) (name : List ℕ) where
   of-part-told : {A : Type 0} (P : ℕ → ℕ → Type 0) → (NoPart s n name → P 15 0) → (ask : ℕ → Answer A) → ((g : ℕ) → AnswerTold P (ask g)) → AnswerTold P (ofPart s name n ask)
   unfolding ofPart
   of-part-told P f ask tell =
-      if-told (AnswerTold P) (leb n (groupNamed s n name)) _ _ (λ e. f (part-none (leb-true _ _ e))) (λ e. tell (groupNamed s n name))
+      either (AnswerTold P) (leb n (groupNamed s n name)) _ _ (λ e. f (part-none (leb-true _ _ e))) (λ e. tell (groupNamed s n name))
 
 -- the first byte of a new record out of its range
 edited-byte : (new : Record) (k : ℕ) → k ≡ firstEdited new → k < held (editionOf new) → FirstSuch (outAt (editionOf new) (bytesOf new) 0) (held (editionOf new)) k
@@ -96,7 +97,7 @@ module _ (s : List ℕ) where
   unfolding recordsRead
   records-asked g room =
       of-group-told (RecordsAsked s g room) s g (λ number place h. of-group number place h) _ (λ group.
-      if-told (AnswerTold (RecordsAsked s g room)) (ltb room (length (groupNo s g .records))) _ _ (λ e. no-room group (ltb-true _ _ e)) (λ e. tt))
+      either (AnswerTold (RecordsAsked s g room)) (ltb room (length (groupNo s g .records))) _ _ (λ e. no-room group (ltb-true _ _ e)) (λ e. tt))
 
   pub part-asked : (name : List ℕ) → AnswerTold (PartAsked s name) (partFound s name)
   unfolding partFound
@@ -108,7 +109,7 @@ module _ (s : List ℕ) where
   unfolding whoPlays
   players-asked name root type =
       asked-told (PlayersAsked s name root type) s (λ number place h. players-of-body number place h) _ (λ n groups.
-      if-told (AnswerTold (PlayersAsked s name root type)) (leb 12 root || leb 34 type) _ _ (λ e. over n groups (leb 12 root) refl e) (λ e.
+      either (AnswerTold (PlayersAsked s name root type)) (leb 12 root || leb 34 type) _ _ (λ e. over n groups (leb 12 root) refl e) (λ e.
       let in-range = within (leb 12 root) (leb 34 type) refl refl e in
       of-part-told s n name (PlayersAsked s name root type) (λ h. no-players n groups (in-range .0) (in-range .1) h) (λ g. granted (playing (groupNo s g) root type)) (λ g. tt)))
     where
@@ -136,7 +137,7 @@ module _ (s : List ℕ) where
         let P = EditAsked s g channel new in
         let k : ℕ = firstEdited new in
         of-channel-told P s g channel (λ number place h. edit-of-channel number place h) _ (λ row has.
-        if-told (AnswerTold P) (not (eqb (channelOf new) channel)) _ _ (λ e. other-source has (eqb-false _ _ (not-true _ e))) (λ e.
-        if-told (AnswerTold P) (ltb k (held (editionOf new))) _ _
+        either (AnswerTold P) (not (eqb (channelOf new) channel)) _ _ (λ e. other-source has (eqb-false _ _ (not-true _ e))) (λ e.
+        either (AnswerTold P) (ltb k (held (editionOf new))) _ _
         (λ f. new-byte k has (eqb-true _ _ (not-false _ e)) (edited-byte new k refl (ltb-true _ _ f)))
         (λ f. tt)))

@@ -19,9 +19,10 @@ use Rattle.layout.specs.Body.{groupPlace, textAt, sharing, afterContents, group
 use Rattle.layout.proofs.Scans.{first-passed, first-stands}
 use Rattle.layout.proofs.Bodies.{GroupMore, group-more, group-there, place-next}
 use Rattle.layout.proofs.Accepted.{body-accepted}
+use Rattle.layout.proofs.Choices.{either}
 use Rattle.law_refusals.specs.Heads.{Headed}
 use Rattle.law_refusals.specs.Body.{GroupRefused, GroupsBefore, BodyRefused, body-over, head-refused, too-many, group-refused, name-again, HasGroups}
-use Rattle.law_refusals.proofs.Told.{TurnTold, RunTold, JudgedTold, if-told, run-told}
+use Rattle.law_refusals.proofs.Told.{TurnTold, RunTold, JudgedTold, run-told}
 use Rattle.law_refusals.proofs.Heads.{head-told, headed}
 use Rattle.law_refusals.proofs.Groups.{group-told}
 use Rattle.law_refusals.proofs.Shared.{shared, unshared}
@@ -77,7 +78,7 @@ module _ (s : List ℕ) where
   unfolding afterContents
   after-contents k before l head (Unsound number place) e h = group-refused k number place before l head h
   after-contents k before l head (Sound ed text n m) e h =
-      if-told (TurnTold (BodyRefused s)) (ltb (sharing s k (groupPlace s k)) k) _ _
+      either (TurnTold (BodyRefused s)) (ltb (sharing s k (groupPlace s k)) k) _ _
       (λ f.
       let i = ltb-true _ _ f in
       let name = shared (textAt s (groupPlace s (sharing s k (groupPlace s k)))) (textAt s (groupPlace s k)) (name-shared s k (groupPlace s k) i) in
@@ -90,11 +91,11 @@ module _ (s : List ℕ) where
       let at : ℕ = groupPlace s k in
       let T = TurnTold (BodyRefused s) in
       let before = groups-before k short (held .1 .1) in
-      if-told T (eqb at (length s)) _ _ (λ e. tt) (λ e.
-      if-told T (not (eqb (headFault s at CSEG) 0)) _ _
+      either T (eqb at (length s)) _ _ (λ e. tt) (λ e.
+      either T (not (eqb (headFault s at CSEG) 0)) _ _
       (λ f. head-refused k (headFault s at CSEG) before (held .1 .0) (omega (arith, held .0, eqb-false at (length s) e)) (head-told s at CSEG (not-true _ f))) (λ f.
       let h = headed s at CSEG (eqb-true _ _ (not-false _ f)) in
-      if-told T (leb 32 k) _ _ (λ g. many (leb-true 32 k g) before h) (λ g.
+      either T (leb 32 k) _ _ (λ g. many (leb-true 32 k g) before h) (λ g.
       after-contents k before (leb-false _ _ g) h (groupAt (drop at s)) refl (group-told (drop at s)))))
     where
       many : 32 ≤ k → GroupsBefore s k → Headed s (groupPlace s k) CSEG → BodyRefused s 12 (groupPlace s k)
@@ -103,5 +104,5 @@ module _ (s : List ℕ) where
   pub body-told : RunTold (BodyRefused s) (bodyRun s)
   unfolding bodyRun
   body-told =
-      if-told (RunTold (BodyRefused s)) (ltb 32768 (length s)) _ _ (λ e. body-over (ltb-true _ _ e))
+      either (RunTold (BodyRefused s)) (ltb 32768 (length s)) _ _ (λ e. body-over (ltb-true _ _ e))
       (λ e. run-told (BodyRefused s) (groupTurn s) Kept next 33 (λ k l held. turn-told (ltb-false _ _ e) k held) start)

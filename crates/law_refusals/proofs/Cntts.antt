@@ -15,9 +15,10 @@ use Rattle.layout.specs.Ranges.{outOf, cnttValue}
 use Rattle.layout.specs.Group.{headFault, ctabOf, cnttChannel, cnttOf, cnttFault, cnttAt, cnttTurn, cnttsOf}
 use Rattle.layout.proofs.Seen.{ctab-seen, ctab-unseen, cntt-seen, cntt-unseen}
 use Rattle.layout.proofs.Cntts.{channel-in, no-fault, CnttMore, cntt-turn-more, cntt-fits}
-use Rattle.law_refusals.specs.Contents.{ctabTag, ctabSource, cnttTag, cnttSource, CtabsBefore, CnttInRange, CnttStands, CnttsBefore}
+use Rattle.layout.proofs.Choices.{either}
+use Rattle.law_refusals.specs.Contents.{ctabTag, cnttTag, cnttSource, CtabsBefore, CnttInRange, CnttStands, CnttsBefore}
 use Rattle.law_refusals.specs.Contents.{ContentsRefused, cntt-head, cntt-size, cntt-channel, cntt-value, cntt-again, cntt-stray}
-use Rattle.law_refusals.proofs.Told.{TurnTold, RunTold, if-told, run-told}
+use Rattle.law_refusals.proofs.Told.{TurnTold, RunTold, run-told}
 use Rattle.law_refusals.proofs.Heads.{head-told, headed}
 
 module _ (c : List ℕ) (n : ℕ) (ctabs : CtabsBefore First c n) (over : ctabTag First c n < length c → (ctabTag First c n + 8 ≤ length c) × (tagAt c (ctabTag First c n) ≡ Cntt)) (within : ctabTag First c n ≤ length c) where
@@ -67,9 +68,9 @@ module _ (c : List ℕ) (n : ℕ) (ctabs : CtabsBefore First c n) (over : ctabTa
       let channel : ℕ = cnttSource c n j in
       let T : ℕ → Type 0 = λ f. (f ≡ 0 → ⊥) → ContentsRefused c f (cnttTag c n j) in
       let home : ℕ = ctabOf First c p n channel in
-      if-told T (ltb (cnttOf c q j channel) j) _ _
+      either T (ltb (cnttOf c q j channel) j) _ _
       (λ e z. let l = ltb-true _ _ e in cntt-again (cnttOf c q j channel) n j before whole l (cntt-seen c q j channel l)) (λ e.
-      if-told T (leb n home) _ _ (λ f z. cntt-stray n j before whole (cntt-unseen c q j channel (ltb-false _ _ e)) (ctab-unseen First c p n channel (leb-true _ _ f))) (λ f z. absurd (z refl)))
+      either T (leb n home) _ _ (λ f z. cntt-stray n j before whole (cntt-unseen c q j channel (ltb-false _ _ e)) (ctab-unseen First c p n channel (leb-true _ _ f))) (λ f z. absurd (z refl)))
 
   turn-told : (j : ℕ) → Kept j → TurnTold (ContentsRefused c) (cnttTurn c p n q j)
   unfolding cnttTurn cnttAt cnttChannel
@@ -77,15 +78,15 @@ module _ (c : List ℕ) (n : ℕ) (ctabs : CtabsBefore First c n) (over : ctabTa
       let at : ℕ = cnttTag c n j in
       let T = TurnTold (ContentsRefused c) in
       let b = held .1 in
-      if-told T (eqb at (length c)) _ _ (λ o. tt) (λ o.
-      if-told T (not (eqb (headFault c at Cntt) 0)) _ _
+      either T (eqb at (length c)) _ _ (λ o. tt) (λ o.
+      either T (not (eqb (headFault c at Cntt) 0)) _ _
       (λ f. cntt-head n j (headFault c at Cntt) b (omega (arith, held .0, eqb-false at (length c) o)) (head-told c at Cntt (not-true _ f))) (λ f.
       let h = headed c at Cntt (eqb-true _ _ (not-false _ f)) in
-      if-told T (not (eqb (word c (at + 4)) 2)) _ _ (λ g. cntt-size n j b h (eqb-false _ _ (not-true _ g))) (λ g.
+      either T (not (eqb (word c (at + 4)) 2)) _ _ (λ g. cntt-size n j b h (eqb-false _ _ (not-true _ g))) (λ g.
       let size = eqb-true (word c (at + 4)) 2 (not-false _ g) in
-      if-told T (outOf First 0 0 (getD c (at + 8) 0)) _ _ (λ i. cntt-channel n j b h size i) (λ i.
-      if-told T (not (cnttValue (getD c (at + 9) 0))) _ _ (λ k. cntt-value n j b h size i (not-true _ k)) (λ k.
-      if-told T (not (eqb (cnttFault c p n q j (getD c (at + 8) 0)) 0)) _ _
+      either T (outOf First 0 0 (getD c (at + 8) 0)) _ _ (λ i. cntt-channel n j b h size i) (λ i.
+      either T (not (cnttValue (getD c (at + 9) 0))) _ _ (λ k. cntt-value n j b h size i (not-true _ k)) (λ k.
+      either T (not (eqb (cnttFault c p n q j (getD c (at + 8) 0)) 0)) _ _
       (λ m. fault-told j b (record { head = h; size = size; channel = i; value = not-false _ k }) (eqb-false _ _ (not-true _ m)))
       (λ m. tt))))))
 

@@ -7,7 +7,7 @@ use native.Mathlib.Omega.{arith}
 use native.Mathlib.Decide.{decLt}
 use lib.Dec.{ltb, leb, eqb}
 use lib.ListN.{length, getD, take, drop}
-use borrow.Author.Tests.{ltb-true, ltb-false, leb-true, ne-eqb, eq-eqb, eqb-true, eqb-false, not-true, not-false}
+use borrow.Author.Tests.{ltb-true, ltb-false, leb-true, eqb-true, eqb-false, not-true, not-false}
 use Rattle.layout.specs.Scan.{first}
 use Rattle.layout.specs.declared.turn.Turn.the-variants.{Refused, More, Done}
 use Rattle.layout.specs.declared.turn.Run.the-variants.{Ended}
@@ -17,20 +17,15 @@ use Rattle.layout.specs.Editions.{tagOf, size}
 use Rattle.layout.specs.Ranges.{outAt, firstOut}
 use Rattle.layout.specs.Sdec.{soundText}
 use Rattle.layout.specs.Group.{headFault, ctabsOver, ctabChannel, ctabOf, ctabAt, ctabTurn, ctabsOf}
-use Rattle.layout.proofs.Scans.{first-passed, first-is}
+use Rattle.layout.proofs.Scans.{first-passed}
 use Rattle.layout.proofs.Runs.{run-ended}
 use Rattle.layout.proofs.Seen.{ctab-seen, ctab-unseen}
 use Rattle.layout.proofs.Ctabs.{over-end, over-tag, CtabMore, turn-more, ctab-fits, ctabs-fit}
+use Rattle.layout.proofs.Choices.{either}
 use Rattle.law_refusals.specs.Heads.{Headed}
-use Rattle.law_refusals.specs.Contents.{ctabTag, ctabSource, CtabInRange, CtabStands, CtabsBefore, CtabRefused, ctab-head, ctab-size, ctab-byte, ctab-again}
-use Rattle.law_refusals.proofs.Told.{TurnTold, RunTold, if-told, run-told, tag-there, tag-other}
+use Rattle.law_refusals.specs.Contents.{ctabTag, CtabInRange, CtabStands, CtabsBefore, CtabRefused, ctab-head, ctab-size, ctab-byte, ctab-again}
+use Rattle.law_refusals.proofs.Told.{TurnTold, RunTold, run-told, tag-there, tag-other}
 use Rattle.law_refusals.proofs.Heads.{head-told, headed, first-such}
-
--- among Ctabs whose source channels are their own, the one that has a channel is the first that has it
-pub ctab-only : {e : Edition} (c : List ℕ) (n a channel : ℕ) → CtabsBefore e c n → a < n → ctabSource e c a ≡ channel → ctabOf e c (8 + word c 4) n channel ≡ a
-unfolding ctabOf
-ctab-only {e} c n a channel before l z =
-    first-is (λ i. eqb (ctabSource e c i) channel) n a l (eq-eqb _ _ z) (λ i h. ne-eqb _ _ (λ q. before .ctabs a l .apart i h (q ∙ sym z)))
 
 module _ (ed : Edition) (c : List ℕ) (sdec : Headed c 0 Sdec) (text : soundText (take (word c 4) (drop 8 c)) ≡ true) where
   abbrev Kept : ℕ → Type 0
@@ -75,15 +70,15 @@ module _ (ed : Edition) (c : List ℕ) (sdec : Headed c 0 Sdec) (text : soundTex
       let at : ℕ = ctabTag ed c n in
       let T = TurnTold (CtabRefused ed c) in
       let b = held .1 in
-      if-told T (ctabsOver c at) _ _ (λ o. tt) (λ o.
+      either T (ctabsOver c at) _ _ (λ o. tt) (λ o.
       let there = more-there at (held .0) o in
-      if-told T (not (eqb (headFault c at (tagOf ed)) 0)) _ _ (λ f. ctab-head n (headFault c at (tagOf ed)) b (there .0) (there .1) (head-told c at (tagOf ed) (not-true _ f))) (λ f.
+      either T (not (eqb (headFault c at (tagOf ed)) 0)) _ _ (λ f. ctab-head n (headFault c at (tagOf ed)) b (there .0) (there .1) (head-told c at (tagOf ed) (not-true _ f))) (λ f.
       let h = headed c at (tagOf ed) (eqb-true _ _ (not-false _ f)) in
-      if-told T (not (eqb (word c (at + 4)) (size ed))) _ _ (λ g. ctab-size n b h (eqb-false _ _ (not-true _ g))) (λ g.
+      either T (not (eqb (word c (at + 4)) (size ed))) _ _ (λ g. ctab-size n b h (eqb-false _ _ (not-true _ g))) (λ g.
       let long = eqb-true (word c (at + 4)) (size ed) (not-false _ g) in
       let test : ℕ → Bool = outAt ed c (at + 8) in
-      if-told T (ltb (first test 0 (size ed)) (size ed)) _ _ (λ i. ctab-byte n (first test 0 (size ed)) b h long (first-such test (size ed) (ltb-true _ _ i))) (λ i.
-      if-told T (ltb (ctabOf ed c p n (getD c (at + 8) 0)) n) _ _
+      either T (ltb (first test 0 (size ed)) (size ed)) _ _ (λ i. ctab-byte n (first test 0 (size ed)) b h long (first-such test (size ed) (ltb-true _ _ i))) (λ i.
+      either T (ltb (ctabOf ed c p n (getD c (at + 8) 0)) n) _ _
       (λ j. let k = ltb-true _ _ j in ctab-again (ctabOf ed c p n (getD c (at + 8) 0)) n b (ranged n h long (ltb-false _ _ i)) k (ctab-seen ed c p n (getD c (at + 8) 0) k))
       (λ j. tt)))))
 

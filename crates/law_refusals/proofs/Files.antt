@@ -17,8 +17,9 @@ use Rattle.layout.proofs.Runs.{run-ended}
 use Rattle.read_style.specs.Walk.{Walked}
 use Rattle.read_style.proofs.StyleLaws.{track-within}
 use Rattle.read_style.proofs.SectionLaws.{hasTag, SectionMore, section-more, walk-start, walk-next}
+use Rattle.layout.proofs.Choices.{either}
 use Rattle.law_refusals.specs.File.{NoStyle, short, no-mthd, not-six, no-mtrk, track-past, sectionTag, SectionsBefore, FileRefused, file-over, not-style, section-cut, section-past, tag-again, no-casm, casm-over}
-use Rattle.law_refusals.proofs.Told.{TurnTold, RunTold, AnswerTold, if-told, run-told, after-told, tag-there, tag-other}
+use Rattle.law_refusals.proofs.Told.{TurnTold, RunTold, AnswerTold, run-told, after-told, tag-there, tag-other}
 
 -- ---- row 1
 
@@ -92,10 +93,10 @@ module _ (s : List ℕ) (l : length s ≤ 1048576) (style : noStyle s ≡ false)
   turn-told n held =
       let at : ℕ = sectionPlace s n in
       let T = TurnTold (FileRefused s) in
-      if-told T (eqb at (length s)) _ _ (λ e. tt) (λ e.
-      if-told T (ltb (length s) (at + 8)) _ _ (λ h. section-cut n (held .1) (omega (arith, held .0 .within, eqb-false at (length s) e)) (ltb-true _ _ h)) (λ h.
-      if-told T (ltb (length s) (at + 8 + word s (at + 4))) _ _ (λ i. section-past n (held .1) (ltb-false _ _ h) (ltb-true _ _ i)) (λ i.
-      if-told T (ltb (sectionTagged s n (tagAt s at)) n) _ _
+      either T (eqb at (length s)) _ _ (λ e. tt) (λ e.
+      either T (ltb (length s) (at + 8)) _ _ (λ h. section-cut n (held .1) (omega (arith, held .0 .within, eqb-false at (length s) e)) (ltb-true _ _ h)) (λ h.
+      either T (ltb (length s) (at + 8 + word s (at + 4))) _ _ (λ i. section-past n (held .1) (ltb-false _ _ h) (ltb-true _ _ i)) (λ i.
+      either T (ltb (sectionTagged s n (tagAt s at)) n) _ _
       (λ j. let k = ltb-true _ _ j in tag-again (sectionTagged s n (tagAt s at)) n (held .1) (ltb-false _ _ i) k (tag-seen s n (tagAt s at) k))
       (λ j. tt))))
 
@@ -130,15 +131,15 @@ module _ (s : List ℕ) (l : length s ≤ 1048576) (style : noStyle s ≡ false)
   among-told n e =
       let k : ℕ = sectionTagged s n CASM in
       let all = sections-end n e in
-      if-told (AnswerTold (FileRefused s)) (leb n k) _ _ (λ h. no-casm n (all .0) (all .1) (tag-unseen s n CASM (leb-true n k h))) (λ h.
-      if-told (AnswerTold (FileRefused s)) (ltb 32768 (word s (sectionPlace s k + 4))) _ _
+      either (AnswerTold (FileRefused s)) (leb n k) _ _ (λ h. no-casm n (all .0) (all .1) (tag-unseen s n CASM (leb-true n k h))) (λ h.
+      either (AnswerTold (FileRefused s)) (ltb 32768 (word s (sectionPlace s k + 4))) _ _
       (λ i. let l = leb-false n k h in casm-over n k (all .0) (all .1) l (tag-seen s n CASM l) (ltb-true _ _ i))
       (λ i. tt))
 
 pub casm-told : (s : List ℕ) → AnswerTold (FileRefused s) (casmFound s)
 unfolding casmFound
 casm-told s =
-    if-told (AnswerTold (FileRefused s)) (ltb 1048576 (length s)) _ _ (λ e. file-over (ltb-true _ _ e)) (λ e.
+    either (AnswerTold (FileRefused s)) (ltb 1048576 (length s)) _ _ (λ e. file-over (ltb-true _ _ e)) (λ e.
     let l = ltb-false 1048576 (length s) e in
-    if-told (AnswerTold (FileRefused s)) (noStyle s) _ _ (λ h. not-style l (style-none s h)) (λ h.
+    either (AnswerTold (FileRefused s)) (noStyle s) _ _ (λ h. not-style l (style-none s h)) (λ h.
     after-told (FileRefused s) (sectionsRun s) (casmAmong s) (sections-told s l h) (among-told s l h)))

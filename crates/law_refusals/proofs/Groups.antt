@@ -14,10 +14,11 @@ use Rattle.layout.specs.declared.turn.Judged.the-variants.{Unsound, Sound}
 use Rattle.layout.specs.Bytes.{word, CSEG, Sdec}
 use Rattle.layout.specs.Sdec.{soundText}
 use Rattle.layout.specs.Group.{headFault, ctabsOf, cnttsOf, afterCtabs, afterCntts, contents, payload, behindHeader, groupAt}
+use Rattle.layout.proofs.Choices.{either}
 use Rattle.law_refusals.specs.Heads.{Headed}
 use Rattle.law_refusals.specs.Contents.{CtabRefused, ContentsRefused, sdec-head, sdec-text, of-ctab}
 use Rattle.law_refusals.specs.Body.{GroupRefused, group-head, group-empty, group-contents}
-use Rattle.law_refusals.proofs.Told.{RunTold, JudgedTold, if-told}
+use Rattle.law_refusals.proofs.Told.{RunTold, JudgedTold}
 use Rattle.law_refusals.proofs.Heads.{head-told, headed}
 use Rattle.law_refusals.proofs.Texts.{text-told}
 use Rattle.law_refusals.proofs.Ctabs.{ctabs-told, ctabs-end}
@@ -40,9 +41,9 @@ module _ (c : List ℕ) where
   pub contents-told : JudgedTold (ContentsRefused c) (contents c)
   unfolding contents
   contents-told =
-      if-told (JudgedTold (ContentsRefused c)) (not (eqb (headFault c 0 Sdec) 0)) _ _ (λ e. sdec-head (headFault c 0 Sdec) (head-told c 0 Sdec (not-true _ e))) (λ e.
+      either (JudgedTold (ContentsRefused c)) (not (eqb (headFault c 0 Sdec) 0)) _ _ (λ e. sdec-head (headFault c 0 Sdec) (head-told c 0 Sdec (not-true _ e))) (λ e.
       let h = headed c 0 Sdec (eqb-true _ _ (not-false _ e)) in
-      if-told (JudgedTold (ContentsRefused c)) (not (soundText (take (word c 4) (drop 8 c)))) _ _ (λ f. sdec-text h (text-told _ (not-true _ f))) (λ f.
+      either (JudgedTold (ContentsRefused c)) (not (soundText (take (word c 4) (drop 8 c)))) _ _ (λ f. sdec-text h (text-told _ (not-true _ f))) (λ f.
       ctabs-judged h (not-false _ f) (ctabsOf First c (8 + word c 4)) refl (ctabs-told First c h (not-false _ f))))
 
 module _ (p : List ℕ) where
@@ -54,7 +55,7 @@ module _ (p : List ℕ) where
   pub group-told : JudgedTold (GroupRefused p) (groupAt p)
   unfolding groupAt
   group-told =
-      if-told (JudgedTold (GroupRefused p)) (not (eqb (headFault p 0 CSEG) 0)) _ _ (λ e. group-head (headFault p 0 CSEG) (head-told p 0 CSEG (not-true _ e))) (λ e.
+      either (JudgedTold (GroupRefused p)) (not (eqb (headFault p 0 CSEG) 0)) _ _ (λ e. group-head (headFault p 0 CSEG) (head-told p 0 CSEG (not-true _ e))) (λ e.
       let h = headed p 0 CSEG (eqb-true _ _ (not-false _ e)) in
-      if-told (JudgedTold (GroupRefused p)) (eqb (word p 4) 0) _ _ (λ f. group-empty h (eqb-true _ _ f)) (λ f.
+      either (JudgedTold (GroupRefused p)) (eqb (word p 4) 0) _ _ (λ f. group-empty h (eqb-true _ _ f)) (λ f.
       behind-told h (eqb-false _ _ f) (contents (payload p)) (contents-told (payload p))))

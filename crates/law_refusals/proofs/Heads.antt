@@ -11,18 +11,19 @@ use Rattle.layout.specs.Bytes.{word, tagged}
 use Rattle.layout.specs.Group.{headFault}
 use Rattle.layout.proofs.Heads.{head-sound}
 use Rattle.layout.proofs.Scans.{first-passed, first-stands}
+use Rattle.layout.proofs.Choices.{either}
 use Rattle.law_refusals.specs.Heads.{HeadRefused, header-cut, other-tag, length-past, Headed}
 use Rattle.law_refusals.specs.Contents.{FirstSuch}
-use Rattle.law_refusals.proofs.Told.{if-told, tag-there, tag-other}
+use Rattle.law_refusals.proofs.Told.{tag-there, tag-other}
 
 module _ (s : List ℕ) (at : ℕ) (tag : List ℕ) where
   faulty : (headFault s at tag ≡ 0 → ⊥) → HeadRefused s at tag (headFault s at tag)
   unfolding headFault
   faulty =
       let T : ℕ → Type 0 = λ f. (f ≡ 0 → ⊥) → HeadRefused s at tag f in
-      if-told T (ltb (length s) (at + 8)) _ _ (λ a z. header-cut (ltb-true _ _ a)) (λ a.
-      if-told T (not (tagged s at tag)) _ _ (λ b z. other-tag (ltb-false _ _ a) (tag-other s at tag (not-true _ b))) (λ b.
-      if-told T (ltb (length s) (at + 8 + word s (at + 4))) _ _ (λ c z. length-past (tag-there s at tag (not-false _ b)) (ltb-false _ _ a) (ltb-true _ _ c)) (λ c z.
+      either T (ltb (length s) (at + 8)) _ _ (λ a z. header-cut (ltb-true _ _ a)) (λ a.
+      either T (not (tagged s at tag)) _ _ (λ b z. other-tag (ltb-false _ _ a) (tag-other s at tag (not-true _ b))) (λ b.
+      either T (ltb (length s) (at + 8 + word s (at + 4))) _ _ (λ c z. length-past (tag-there s at tag (not-false _ b)) (ltb-false _ _ a) (ltb-true _ _ c)) (λ c z.
       absurd (z refl))))
 
   -- as the code asks it

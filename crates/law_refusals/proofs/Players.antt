@@ -16,9 +16,10 @@ use Rattle.layout.specs.Body.{groupPlace, textAt, bodyRun, groupNo}
 use Rattle.layout.specs.Asked.{groupNamed, ofPart}
 use Rattle.layout.specs.Plays.{playing, whoPlays}
 use Rattle.layout.proofs.Scans.{first-stands}
+use Rattle.layout.proofs.Choices.{either}
 use Rattle.law_refusals.specs.Body.{Named, BodyRefused}
 use Rattle.law_refusals.specs.After.{HasGroup}
-use Rattle.law_refusals.proofs.Told.{RunTold, if-told}
+use Rattle.law_refusals.proofs.Told.{RunTold}
 use Rattle.law_refusals.proofs.Above.{body-above}
 use Rattle.law_refusals.proofs.Bodies.{body-told, has-groups}
 
@@ -44,7 +45,7 @@ module _ (s name : List ℕ) (root type : ℕ) where
     where
       among : (n : ℕ) → bodyRun s ≡ Ended n → Found (ofPart s name n (λ g. granted (playing (groupNo s g) root type)))
       among n e =
-          if-told Found (leb n (groupNamed s n name)) (refused 15 0) (granted (playing (groupNo s (groupNamed s n name)) root type)) (λ f z. absurd (omega arith)) (λ f z.
+          either Found (leb n (groupNamed s n name)) (refused 15 0) (granted (playing (groupNo s (groupNamed s n name)) root type)) (λ f z. absurd (omega arith)) (λ f z.
           let l = leb-false n (groupNamed s n name) f in
           record { group = groupNamed s n name; has = record { count = n; groups = has-groups s n e; there = l }; named = part-named n l; is = refl })
 
@@ -52,4 +53,4 @@ module _ (s name : List ℕ) (root type : ℕ) where
           → Found (afterRun r (λ n. cond (leb 12 root || leb 34 type) (refused 16 0) (ofPart s name n (λ g. granted (playing (groupNo s g) root type)))))
       go (Stopped number place) e h = λ z. absurd (omega (arith, body-above s number place h))
       go (Ended n) e h =
-          if-told Found (leb 12 root || leb 34 type) (refused 16 0) (ofPart s name n (λ g. granted (playing (groupNo s g) root type))) (λ f z. absurd (omega arith)) (λ f. among n e)
+          either Found (leb 12 root || leb 34 type) (refused 16 0) (ofPart s name n (λ g. granted (playing (groupNo s g) root type))) (λ f z. absurd (omega arith)) (λ f. among n e)

@@ -17,8 +17,9 @@ use Rattle.layout.specs.Screen.{fieldSet}
 use Rattle.layout.proofs.Scans.{first-passed}
 use Rattle.read_salvage.proofs.Room.{numbers-length}
 use Rattle.layout.proofs.Outs.{unruled-first}
+use Rattle.layout.proofs.Choices.{either}
 use Rattle.law_refusals.specs.Records.{FirstBadByte, InRange, PlaceRefused, root-out, note-out, record-byte, root-fixed, FieldRefused, index-out, value-out, SalvageRefused, list-over, list-short}
-use Rattle.law_refusals.proofs.Told.{AnswerTold, if-told}
+use Rattle.law_refusals.proofs.Told.{AnswerTold}
 use Rattle.law_refusals.proofs.Heads.{first-such}
 
 -- ---- one record in memory
@@ -48,10 +49,10 @@ module _ (r : Record) where
   unfolding notePlaced
   place-told root note =
       let T = AnswerTold (PlaceRefused r root note) in
-      if-told T (leb 12 root || leb 128 note) _ _ (λ e. over (leb 12 root) refl e) (λ e.
+      either T (leb 12 root || leb 128 note) _ _ (λ e. over (leb 12 root) refl e) (λ e.
       let l = within (leb 12 root) (leb 128 note) refl refl e in
-      if-told T (ltb (firstBad r) (held (editionOf r))) _ _ (λ f. record-byte (firstBad r) (l .0) (l .1) (bad-byte (ltb-true _ _ f))) (λ f.
-      if-told T (not (bypass r) && eqb (r .rule) 1) _ _ (λ g. fixed root note (l .0) (l .1) (in-range (ltb-false _ _ f)) g) (λ g. tt)))
+      either T (ltb (firstBad r) (held (editionOf r))) _ _ (λ f. record-byte (firstBad r) (l .0) (l .1) (bad-byte (ltb-true _ _ f))) (λ f.
+      either T (not (bypass r) && eqb (r .rule) 1) _ _ (λ g. fixed root note (l .0) (l .1) (in-range (ltb-false _ _ f)) g) (λ g. tt)))
     where
       over : (a : Bool) → leb 12 root ≡ a → a || leb 128 note ≡ true → PlaceRefused r root note 16 0
       over true f q = root-out (leb-true _ _ f)
@@ -66,8 +67,8 @@ module _ (r : Record) where
   unfolding fieldSet
   field-told index value =
       let T = AnswerTold (FieldRefused index value) in
-      if-told T (leb (held (editionOf r)) index) _ _ (λ e. index-out (leb-true _ _ e)) (λ e.
-      if-told T (outOf (editionOf r) index (ruleAt (bytesOf r) 0 index) value) _ _ (λ f. value-out (leb-false _ _ e) (unruled-first index 0 (ruleAt (bytesOf r) 0 index) value ∙ f)) (λ f. tt))
+      either T (leb (held (editionOf r)) index) _ _ (λ e. index-out (leb-true _ _ e)) (λ e.
+      either T (outOf (editionOf r) index (ruleAt (bytesOf r) 0 index) value) _ _ (λ f. value-out (leb-false _ _ e) (unruled-first index 0 (ruleAt (bytesOf r) 0 index) value ∙ f)) (λ f. tt))
 
 -- ---- the salvage list
 
@@ -75,5 +76,5 @@ pub salvage-told : (s : List ℕ) (room : ℕ) → AnswerTold (SalvageRefused s 
 unfolding salvaged
 salvage-told s room =
     let T = AnswerTold (SalvageRefused s room) in
-    if-told T (ltb 32768 (length s)) _ _ (λ e. list-over (ltb-true _ _ e)) (λ e.
-    if-told T (ltb room (length (listNumbers (salvage s)))) _ _ (λ f. list-short (ltb-false _ _ e) (rw (numbers-length (salvage s)) at (ltb-true room (length (listNumbers (salvage s))) f))) (λ f. tt))
+    either T (ltb 32768 (length s)) _ _ (λ e. list-over (ltb-true _ _ e)) (λ e.
+    either T (ltb room (length (listNumbers (salvage s)))) _ _ (λ f. list-short (ltb-false _ _ e) (rw (numbers-length (salvage s)) at (ltb-true room (length (listNumbers (salvage s))) f))) (λ f. tt))

@@ -1,7 +1,7 @@
--- What is told of every refusal that a turn, a run, a verdict or an answer can come to; a choice tells what both its sides tell.
+-- What is told of every refusal that a turn, a run, a verdict or an answer can come to.
 use Prim.Native.Nat.{ℕ, zero, suc, _+_, _-_, _<_}
 use mathlib.Core.Path.{_≡_, refl, sym, _∙_}
-use mathlib.Core.Bool.{Bool, true, false, cond, false≢true}
+use mathlib.Core.Bool.{true, false, false≢true}
 use mathlib.Core.List.{List}
 use native.Mathlib.Omega.{arith}
 use native.Mathlib.Numerals.{add-one}
@@ -37,11 +37,6 @@ module _ (P : ℕ → ℕ → Type 0) where
   abbrev pub AnswerTold : {A : Type 0} → Answer A → Type 0
   AnswerTold (refused number place) = P number place
   AnswerTold (granted a) = Unit {0}
-
--- a choice
-pub if-told : {A : Type 0} (T : A → Type 0) (b : Bool) (t u : A) → (b ≡ true → T t) → (b ≡ false → T u) → T (cond b t u)
-if-told T true t u f g = f refl
-if-told T false t u f g = g refl
 
 -- a run tells what its turns tell, and what is kept from turn to turn
 module _ (P : ℕ → ℕ → Type 0) (turn : ℕ → Turn) (Kept : ℕ → Type 0) (next : (k : ℕ) → Kept k → turn k ≡ More → Kept (k + 1)) where

@@ -17,8 +17,9 @@ use Rattle.layout.specs.Sdec.{soundText}
 use Rattle.layout.specs.Write.{groupBytes, recordOn, recordTurn, recordsRun, wrongPositions, groupFrom, written}
 use Rattle.layout.proofs.Scans.{first-passed, first-stands}
 use Rattle.layout.proofs.Runs.{run-ended}
+use Rattle.layout.proofs.Choices.{either}
 use Rattle.law_refusals.specs.Records.{FirstBadByte, InRange, RecordsBefore, WriteRefused, count-over, text-broken, table-byte, table-again, positions-wrong, buffer-short}
-use Rattle.law_refusals.proofs.Told.{TurnTold, RunTold, AnswerTold, if-told, run-told, after-told}
+use Rattle.law_refusals.proofs.Told.{TurnTold, RunTold, AnswerTold, run-told, after-told}
 use Rattle.law_refusals.proofs.Texts.{text-told}
 use Rattle.law_refusals.proofs.Records.{bad-byte, in-range}
 use Rattle.law_refusals.proofs.Positions.{right-told, told-wrong}
@@ -103,9 +104,9 @@ module _ (text : List ℕ) (table : List Record) (count room : ℕ) (few : count
       let k : ℕ = firstBad r in
       let j : ℕ = recordOn rs i (channelOf r) in
       let known = before i (omega arith) held in
-      if-told (TurnTold (WriteRefused text table count room)) (ltb k 26) _ _
+      either (TurnTold (WriteRefused text table count room)) (ltb k 26) _ _
       (λ e. table-byte i k l few sound known (bad-there r (getD table i blank) k (same-record i l) (bad-byte r (ltb-true _ _ e)))) (λ e.
-      if-told (TurnTold (WriteRefused text table count room)) (ltb j i) _ _
+      either (TurnTold (WriteRefused text table count room)) (ltb j i) _ _
       (λ f.
       let m = ltb-true j i f in
       let inside : InRange r = in-range r (ltb-false _ _ e) in
@@ -137,13 +138,13 @@ pub write-told : (text : List ℕ) (table : List Record) (count room : ℕ) → 
 unfolding written
 write-told text table count room =
     let P = WriteRefused text table count room in
-    if-told (AnswerTold P) (ltb (length table) count) _ _ (λ e. count-over (ltb-true _ _ e)) (λ e.
+    either (AnswerTold P) (ltb (length table) count) _ _ (λ e. count-over (ltb-true _ _ e)) (λ e.
     let few = ltb-false (length table) count e in
-    if-told (AnswerTold P) (not (soundText text)) _ _ (λ f. text-broken few (text-told text (not-true _ f))) (λ f.
+    either (AnswerTold P) (not (soundText text)) _ _ (λ f. text-broken few (text-told text (not-true _ f))) (λ f.
     after-told P (recordsRun (take count table)) _ (records-told text table count room few (not-false _ f)) (λ n g.
     let all = all-before text table count room few (not-false _ f) n g in
-    if-told (AnswerTold P) (wrongPositions (take count table)) _ _
+    either (AnswerTold P) (wrongPositions (take count table)) _ _
     (λ h. positions-wrong few (not-false _ f) all (told-wrong (take count table) h)) (λ h.
-    if-told (AnswerTold P) (ltb room (length (groupBytes (groupFrom text table count)))) _ _
+    either (AnswerTold P) (ltb room (length (groupBytes (groupFrom text table count)))) _ _
     (λ k. buffer-short few (not-false _ f) all (right-told (take count table) h) (ltb-true _ _ k))
     (λ k. tt)))))

@@ -1,6 +1,6 @@
 -- A Ctab read is what is held of its record, closed and behind a header, and a Ctab so written is read (document 01, "The CASM body": Ctab): over the edition.
 use Prim.Native.Nat.{ℕ, _+_, _≤_, _<_}
-use mathlib.Core.Path.{_≡_, refl, sym, ap, ap₂, _∙_}
+use mathlib.Core.Path.{_≡_, refl, sym, ap, _∙_}
 use mathlib.Core.Bool.{true, false}
 use mathlib.Core.List.{List, _++_, append-assoc}
 use native.Mathlib.Omega.{arith}
@@ -29,7 +29,6 @@ use Rattle.layout.proofs.Records.{bytes-length, Ranged}
 use Rattle.layout.proofs.Ctabs.{CtabMore, ctab-fits}
 use Rattle.layout.proofs.Outs.{out-alike}
 use Rattle.law_rounds.specs.Rounds.{Bytes}
-use Rattle.law_rounds.proofs.Blocks.{moved}
 use Rattle.law_rounds.proofs.Chunks.{chunk-read, length-chunk, written-length, written-rest, written-byte, written-head}
 use Rattle.law_rounds.proofs.InRange.{closing-read, closing-ranged}
 
