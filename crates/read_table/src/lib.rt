@@ -1,4 +1,4 @@
-// A group's records, one by one (document 01, "The CASM body"): what reading them comes to, and record number i by value. Filling a lent table is `read_filled`'s.
+// A group's records, one by one (document 01, "The CASM body"): what reading them comes to, and record number i by value. Filling a lent table is `filled`'s.
 pub mod filled;
 
 ghost use mathlib.Core.Path.{_≡_};

@@ -69,7 +69,7 @@ claimed cntts position (Value v) = cond (free cntts position) position never
 unfoldable pub larger : ℕ → ℕ → ℕ
 larger a b = cond (ltb a b) b a
 
--- more records than any memory lends: a slice has fewer than 2^63 bytes, and a record or a row takes 28 of them or more
+-- more records than any memory lends: a slice has fewer than 2^63 bytes, of which a record takes 29 and a row 51
 abbrev pub recordsNever : ℕ
 recordsNever = 340000000000000000
 
