@@ -1,3 +1,3 @@
 pub mod CnttLaws
-pub mod CtabHomes
-pub mod HomeLaws
+pub mod CtabSeen
+pub mod SeenLaws

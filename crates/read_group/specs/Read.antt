@@ -6,10 +6,10 @@ use lib.ListN.{length}
 use Rattle.layout.specs.declared.turn.Run.the-variants.{Ended}
 use Rattle.layout.specs.declared.edition.Edition.{Edition}
 use Rattle.layout.specs.Group.{ctabPlace, ctabChannel, ctabsOf}
-use Rattle.read_group.specs.Homes.{Homes}
+use Rattle.read_group.specs.Seen.{Seen}
 use Rattle.read_group.specs.declared.ctabs.Ctabs.{Ctabs}
 
--- what is read of the Ctabs of an edition from p on: the run, and where it ended the homes of its channels
+-- what is read of the Ctabs of an edition from p on: the run, and where it ended which channels its Ctabs have
 pub record CtabsRead (e : Edition) (c : List ℕ) (p : ℕ) (r : Ctabs) : Type 0 where
   pub run : r .run ≡ ctabsOf e c p
-  pub homes : (n : ℕ) → r .run ≡ Ended n → (ctabPlace e p n ≤ length c) × Homes (ctabChannel e c p) n (r .homes)
+  pub seen : (n : ℕ) → r .run ≡ Ended n → (ctabPlace e p n ≤ length c) × Seen (ctabChannel e c p) n (r .seen)

@@ -1,10 +1,10 @@
-// The run of Cntts, after the Ctabs, in any order. The Ctab of a channel and an earlier Cntt of it are looked up in tables.
+// The run of Cntts, after the Ctabs, in any order. Whether a Ctab or an earlier Cntt has its channel is looked up in tables.
 ghost use mathlib.Core.Path.{_≡_};
 ghost use Prim.Native.Nat.{_+_, _*_, _≤_};
 ghost use lib.ListN.{length};
 ghost use Rattle.layout.specs.declared.edition.Edition.the-variants.{First};
 ghost use Rattle.layout.specs.Group.{ctabPlace, ctabChannel, cnttChannel, cnttTurn, cnttsOf};
-ghost use Rattle.read_group.specs.Homes.{Homes, homeFault};
+ghost use Rattle.read_group.specs.Seen.{Seen, channelFault};
 use layout::limit::CHANNELS;
 use layout::refusal::BAD_SIZE;
 use layout::refusal::CHANNEL_AGAIN;
@@ -17,14 +17,14 @@ use layout::tag::CNTT;
 use layout::turn::Run;
 use layout::turn::Turn;
 
-// The refusal of a Cntt by the home of its channel among the Ctabs and its home among the Cntts before it; 0 where there is none.
-fn home_fault(home: usize, again: usize) -> u8
-    ensures { λ r. ⌜ r ≡ homeFault home again ⌝ }
+// The refusal of a Cntt by whether a Ctab has its channel and whether a Cntt before it has; 0 where there is none.
+fn channel_fault(ctab: bool, again: bool) -> u8
+    ensures { λ r. ⌜ r ≡ channelFault ctab again ⌝ }
 {
-    if again != 0 {
+    if again {
         return CHANNEL_AGAIN;
     }
-    if home == 0 {
+    if !ctab {
         return STRAY_CNTT;
     }
     0
@@ -36,10 +36,10 @@ fn cntt_turn(
     p: usize,
     n: usize,
     j: usize,
-    homes: &[usize; CHANNELS],
-    seen: &[usize; CHANNELS],
+    ctabs: &[bool; CHANNELS],
+    seen: &[bool; CHANNELS],
 ) -> Turn
-    requires { ⌜ (ctabPlace First p n + 10 * j ≤ length (now c)) × (Homes (ctabChannel First (now c) p) n (now homes) × Homes (cnttChannel (now c) (ctabPlace First p n)) j (now seen)) ⌝ }
+    requires { ⌜ (ctabPlace First p n + 10 * j ≤ length (now c)) × (Seen (ctabChannel First (now c) p) n (now ctabs) × Seen (cnttChannel (now c) (ctabPlace First p n)) j (now seen)) ⌝ }
     ensures { λ r. ⌜ r ≡ cnttTurn (now (c .entry)) p n (ctabPlace First p n) j ⌝ }
 {
     let at = p + CTAB_STRIDE * n + CNTT_STRIDE * j;
@@ -60,7 +60,7 @@ fn cntt_turn(
     if !read_ranges::is_cntt_value(read_bytes::byte(c, at + 9)) {
         return Turn::Refused(OUT_OF_RANGE, at + 9);
     }
-    let fault = home_fault(homes[channel], seen[channel]);
+    let fault = channel_fault(ctabs[channel], seen[channel]);
     if fault != 0 {
         return Turn::Refused(fault, at);
     }
@@ -68,20 +68,20 @@ fn cntt_turn(
 }
 
 // The Cntts after n Ctabs from p on.
-pub fn read_cntts(c: &[u8], p: usize, n: usize, homes: &[usize; CHANNELS]) -> Run
-    requires { ⌜ (ctabPlace First p n ≤ length (now c)) × Homes (ctabChannel First (now c) p) n (now homes) ⌝ }
+pub fn read_cntts(c: &[u8], p: usize, n: usize, ctabs: &[bool; CHANNELS]) -> Run
+    requires { ⌜ (ctabPlace First p n ≤ length (now c)) × Seen (ctabChannel First (now c) p) n (now ctabs) ⌝ }
     ensures { λ r. ⌜ r ≡ cnttsOf (now (c .entry)) p n ⌝ }
 {
-    let mut seen: [usize; CHANNELS] = [0; CHANNELS];
+    let mut seen: [bool; CHANNELS] = [false; CHANNELS];
     let mut j: usize = 0;
     loop {
-        match cntt_turn(c, p, n, j, homes, &seen) {
+        match cntt_turn(c, p, n, j, ctabs, &seen) {
             Turn::Refused(number, place) => return Run::Stopped(number, place),
             Turn::Done => return Run::Ended(j),
             Turn::More => {}
         }
         let channel = read_bytes::byte(c, p + CTAB_STRIDE * n + CNTT_STRIDE * j + 8);
-        seen[channel] = j + 1;
+        seen[channel] = true;
         j += 1;
     }
 }

@@ -1,9 +1,9 @@
-// The run of Ctabs. Where each source channel stands is kept in a table, so that no Ctab is looked at twice.
+// The run of Ctabs. Which source channels they have is kept in a table, so that no Ctab is looked at twice.
 ghost use mathlib.Core.Path.{_≡_};
 ghost use Prim.Native.Nat.{_+_, _*_, _≤_};
 ghost use lib.ListN.{length};
 ghost use Rattle.layout.specs.Group.{ctabsOver, ctabPlace, ctabChannel, ctabTurn};
-ghost use Rattle.read_group.specs.Homes.{Homes};
+ghost use Rattle.read_group.specs.Seen.{Seen};
 ghost use Rattle.read_group.specs.Read.{CtabsRead};
 use layout::edition::Edition;
 use layout::limit::CHANNELS;
@@ -18,10 +18,10 @@ use read_record::edition::ctab_place;
 use read_record::edition::size_of;
 use read_record::edition::tag_of;
 
-// The run, and for each source channel 0, or one more than the number of its Ctab.
+// The run, and for each source channel whether one of its Ctabs has it.
 pub struct Ctabs {
     pub run: Run,
-    pub homes: [usize; CHANNELS],
+    pub seen: [bool; CHANNELS],
 }
 
 // Whether the Ctabs end at `at`: the group's end, or a Cntt.
@@ -39,8 +39,8 @@ fn is_over(c: &[u8], at: usize) -> bool
 }
 
 // Ctab number n of the run of an edition that begins at p.
-fn ctab_turn(edition: Edition, c: &[u8], p: usize, n: usize, homes: &[usize; CHANNELS]) -> Turn
-    requires { ⌜ (ctabPlace edition p n ≤ length (now c)) × Homes (ctabChannel edition (now c) p) n (now homes) ⌝ }
+fn ctab_turn(edition: Edition, c: &[u8], p: usize, n: usize, seen: &[bool; CHANNELS]) -> Turn
+    requires { ⌜ (ctabPlace edition p n ≤ length (now c)) × Seen (ctabChannel edition (now c) p) n (now seen) ⌝ }
     ensures { λ r. ⌜ r ≡ ctabTurn edition (now (c .entry)) p n ⌝ }
 {
     let size = size_of(edition);
@@ -60,7 +60,7 @@ fn ctab_turn(edition: Edition, c: &[u8], p: usize, n: usize, homes: &[usize; CHA
         return Turn::Refused(OUT_OF_RANGE, at + 8 + k);
     }
     let channel = read_bytes::byte(c, at + 8);
-    if homes[channel] != 0 {
+    if seen[channel] {
         return Turn::Refused(CHANNEL_AGAIN, at);
     }
     Turn::More
@@ -71,26 +71,26 @@ pub fn read_ctabs(edition: Edition, c: &[u8], p: usize) -> Ctabs
     requires { ⌜ p ≤ length (now c) ⌝ }
     ensures { λ r. ⌜ CtabsRead edition (now (c .entry)) p r ⌝ }
 {
-    let mut homes: [usize; CHANNELS] = [0; CHANNELS];
+    let mut seen: [bool; CHANNELS] = [false; CHANNELS];
     let mut n: usize = 0;
     loop {
-        match ctab_turn(edition, c, p, n, &homes) {
+        match ctab_turn(edition, c, p, n, &seen) {
             Turn::Refused(number, place) => {
                 return Ctabs {
                     run: Run::Stopped(number, place),
-                    homes: homes,
+                    seen: seen,
                 };
             }
             Turn::Done => {
                 return Ctabs {
                     run: Run::Ended(n),
-                    homes: homes,
+                    seen: seen,
                 };
             }
             Turn::More => {}
         }
         let channel = read_bytes::byte(c, ctab_place(edition, c, p, n) + 8);
-        homes[channel] = n + 1;
+        seen[channel] = true;
         n += 1;
     }
 }

@@ -29,11 +29,11 @@ pub fn judge_contents(c: &[u8]) -> Judged
         return Judged::Unsound(BAD_TEXT, 0);
     }
     let read = read_ctabs(Edition::First, c, p);
-    let homes = read.homes;
+    let seen = read.seen;
     let run = read.run;
     match run {
         Run::Stopped(number, place) => Judged::Unsound(number, place),
-        Run::Ended(n) => match read_cntts(c, p, n, &homes) {
+        Run::Ended(n) => match read_cntts(c, p, n, &seen) {
             Run::Stopped(number, place) => Judged::Unsound(number, place),
             Run::Ended(m) => Judged::Sound(Edition::First, text, n, m),
         },

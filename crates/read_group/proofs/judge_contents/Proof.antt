@@ -28,7 +28,7 @@ read-ctabs-requires c κs =
     omega (arith, head-within _ _ _ _ (d .before .before .head-fault .ensures) (d .before .if1 .left), d .word-at .ensures .0)
 
 read-cntts-requires : tie.Need-read-cntts-requires
-read-cntts-requires c κs = c .before .before .before .before .before .read-ctabs .ensures .homes _ (c .before .before .run2 .given .1)
+read-cntts-requires c κs = c .before .before .before .before .before .read-ctabs .ensures .seen _ (c .before .before .run2 .given .1)
 
 returns-3 : tie.Need-returns-3
 returns-3 c =

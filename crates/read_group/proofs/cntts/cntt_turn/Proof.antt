@@ -1,4 +1,4 @@
--- One law for each way out; the tables of homes give the Cntt's fault.
+-- One law for each way out; the two tables give the Cntt's fault.
 use mathlib.Core.Path.{sym, _∙_}
 use native.Mathlib.Omega.{arith}
 use borrow.Author.Tests.{not-true, not-false}
@@ -66,7 +66,7 @@ returns-6 c =
     let pre = d .before .before .before .before .pre in
     sym (cntt-fault _ _ _ _ _ _ (d .before .before .if1 .left) _ (d .before .head-fault .ensures) (d .if2 .left) (sym (e .before .word-at .ensures .0) ∙ e .if3 .left)
     (channel-in _ low) (rw (f .before .before .byte2 .ensures .0) at (sym (f .before .is-cntt-value .ensures) ∙ not-false _ (f .if5 .left))) _
-    (c .before .home-fault .ensures ∙ fault-at _ _ _ _ _ _ _ (pre .1 .0 .each _ (omega arith)) (pre .1 .1 .each _ (omega arith)) _ (g .before .byte .ensures .0)) (c .if6 .taken))
+    (c .before .channel-fault .ensures ∙ fault-at _ _ _ _ _ _ _ (pre .1 .0 .each _ (omega arith)) (pre .1 .1 .each _ (omega arith)) _ (g .before .byte .ensures .0)) (c .if6 .taken))
 
 returns-7 : tie.Need-returns-7
 unfolding cnttTurn
@@ -79,7 +79,7 @@ returns-7 c =
     let pre = d .before .before .before .before .pre in
     sym (cntt-last _ _ _ _ _ _ (d .before .before .if1 .left) _ (d .before .head-fault .ensures) (d .if2 .left) (sym (e .before .word-at .ensures .0) ∙ e .if3 .left)
     (channel-in _ low) (rw (f .before .before .byte2 .ensures .0) at (sym (f .before .is-cntt-value .ensures) ∙ not-false _ (f .if5 .left))) _
-    (c .before .home-fault .ensures ∙ fault-at _ _ _ _ _ _ _ (pre .1 .0 .each _ (omega arith)) (pre .1 .1 .each _ (omega arith)) _ (g .before .byte .ensures .0)) (c .if6 .left))
+    (c .before .channel-fault .ensures ∙ fault-at _ _ _ _ _ _ _ (pre .1 .0 .each _ (omega arith)) (pre .1 .1 .each _ (omega arith)) _ (g .before .byte .ensures .0)) (c .if6 .left))
 
 pub cntt-turn-spec : {M : Type 1} → statement M
 cntt-turn-spec =
@@ -104,8 +104,6 @@ cntt-turn-spec =
     (λ c κs. search needs)
     (λ c. search needs)
     returns-5
-    (λ c. search needs)
-    (λ c. search needs)
     (λ c. search needs)
     (λ c. search needs)
     (λ c κs. search needs)

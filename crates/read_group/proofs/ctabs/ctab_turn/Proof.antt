@@ -1,10 +1,10 @@
--- One law for each way out; a channel's home says whether an earlier Ctab has it.
+-- One law for each way out; the table says whether an earlier Ctab has the channel.
 use mathlib.Core.Path.{sym, _∙_}
 use native.Mathlib.Omega.{arith}
 use Rattle.layout.proofs.Heads.{head-within}
 use Rattle.layout.proofs.Ctabs.{turn-at, ctab-over, ctab-head, ctab-size, ctab-out, ctab-last, channel-held}
 use Rattle.layout.proofs.Editions.{size-some}
-use Rattle.read_group.proofs.CtabHomes.{ctab-again, ctab-fresh}
+use Rattle.read_group.proofs.CtabSeen.{ctab-seen}
 use borrow.Author.Needs.{needs}
 use Rattle.read_group.proofs.ctabs.ctab_turn.Statement.{statement}
 use Rattle.read_group.proofs.ctabs.ctab_turn.Tie as tie
@@ -74,8 +74,8 @@ returns-5 c =
     turn-at _ _ _ _ _ _ (o .before .before .ctab-place .ensures)
     (ctab-last _ _ _ _ _ (sym (o .before .is-over .ensures) ∙ o .if1 .left) _ _ (h .before .tag-of .ensures .0) (h .head-fault .ensures) (z .if2 .left) _ (o .before .before .before .size-of .ensures)
     (sym (l .before .word-at .ensures .0) ∙ l .if3 .left) _ (f .first-out .ensures) (omega arith) _
-    (ctab-again _ _ _ _ _ _ _ (b .byte .ensures .0) (o .before .before .before .before .before .pre .1 .each _
-    (rw (b .byte .ensures .0) (channel-held _ _ _ _ _ (o .before .before .before .size-of .ensures) (f .first-out .ensures) (b .before .if4 .left)))) (c .if5 .taken)))
+    (ctab-seen _ _ _ _ _ _ _ (b .byte .ensures .0) (o .before .before .before .before .before .pre .1 .each _
+    (rw (b .byte .ensures .0) (channel-held _ _ _ _ _ (o .before .before .before .size-of .ensures) (f .first-out .ensures) (b .before .if4 .left))) ∙ c .if5 .taken)))
 
 returns-6 : tie.Need-returns-6
 returns-6 c =
@@ -88,8 +88,8 @@ returns-6 c =
     turn-at _ _ _ _ _ _ (o .before .before .ctab-place .ensures)
     (ctab-last _ _ _ _ _ (sym (o .before .is-over .ensures) ∙ o .if1 .left) _ _ (h .before .tag-of .ensures .0) (h .head-fault .ensures) (z .if2 .left) _ (o .before .before .before .size-of .ensures)
     (sym (l .before .word-at .ensures .0) ∙ l .if3 .left) _ (f .first-out .ensures) (omega arith) _
-    (ctab-fresh _ _ _ _ _ _ _ (b .byte .ensures .0) (o .before .before .before .before .before .pre .1 .each _
-    (rw (b .byte .ensures .0) (channel-held _ _ _ _ _ (o .before .before .before .size-of .ensures) (f .first-out .ensures) (b .before .if4 .left)))) (c .if5 .left)))
+    (ctab-seen _ _ _ _ _ _ _ (b .byte .ensures .0) (o .before .before .before .before .before .pre .1 .each _
+    (rw (b .byte .ensures .0) (channel-held _ _ _ _ _ (o .before .before .before .size-of .ensures) (f .first-out .ensures) (b .before .if4 .left))) ∙ c .if5 .left)))
 
 pub ctab-turn-spec : {M : Type 1} → statement M
 ctab-turn-spec =
@@ -112,7 +112,6 @@ ctab-turn-spec =
     returns-4
     (λ c. search needs)
     byte-requires
-    (λ c. search needs)
     element-copy-out-if5
     returns-5
     returns-6)
