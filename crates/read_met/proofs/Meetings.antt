@@ -8,8 +8,8 @@ use lib.Dec.{eqb}
 use lib.ListN.{length, getD, set, length-set}
 use lib.Seq.{getD-set-same, getD-set-other}
 use borrow.Author.Tests.{eq-eqb, eqb-true, eqb-false}
+use Rattle.read_names.proofs.Words.{or-again, or-kept}
 use Rattle.read_met.specs.Table.{wordOf, bits, met, Meeting}
-use Rattle.read_met.proofs.Words.{or-again, or-kept}
 
 module _ (t : List ℕ) (mark : ℕ) (l : wordOf mark < length t) where
   -- the word with the bits set

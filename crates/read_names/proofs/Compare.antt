@@ -78,7 +78,7 @@ unfolding every
 every-append p [] ys = refl
 every-append p (x ∷ xs) ys = rw (every-append p xs ys) (sym (and-assoc (p x) (every p xs) (every p ys)))
 
-has-append : (xs ys : List (List ℕ)) (x : List ℕ) → has (xs ++ ys) x ≡ has xs x || has ys x
+pub has-append : (xs ys : List (List ℕ)) (x : List ℕ) → has (xs ++ ys) x ≡ has xs x || has ys x
 unfolding has
 has-append [] ys x = refl
 has-append (y ∷ xs) ys x = rw (has-append xs ys x) (sym (or-assoc (same y x) (has xs x) (has ys x)))

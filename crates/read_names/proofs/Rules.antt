@@ -1,9 +1,10 @@
 -- The rules on a text, one law for each way out: the names so far are of right size and all different, and the rest of the text has the others.
-use Prim.Native.Nat.{ℕ, _+_, _-_, _≤_, _<_}
+use Prim.Native.Nat.{ℕ, _+_, _-_, _^_, _≤_, _<_}
 use native.Mathlib.Omega.{arith}
 use mathlib.Core.Path.{_≡_, refl, ap, _∙_}
 use mathlib.Core.Bool.{Bool, true, false, _&&_, and-false}
 use mathlib.Core.List.{List, [], _∷_, _++_, append-nil, append-assoc}
+use lib.Bits.{bitOr}
 use lib.Dec.{leb}
 use lib.ListN.{length, getD, set, take, drop, drop-of-length-le}
 use lib.Seq.{slice, slice-cons, slice-empty, take-suc-set}
@@ -13,6 +14,8 @@ use Rattle.layout.specs.Lists.{has, distinct, every}
 use Rattle.layout.specs.Ranges.{_to_, inside}
 use Rattle.layout.specs.Sdec.{names, soundText}
 use Rattle.read_names.specs.Parts.{part, namesFrom, Ends, Checked, cuts, next, Placed, none, more}
+use Rattle.read_names.specs.Marks.{sign}
+use Rattle.read_names.proofs.Signs.{Met, met-none, met-more}
 use Rattle.read_names.proofs.Cuts.{drop-more, part-length, names-start, names-end}
 use Rattle.read_names.proofs.Compare.{every-append, distinct-again, distinct-more}
 
@@ -94,18 +97,19 @@ placed-grow n (x ∷ es) i e (more p q r) h l = more p q (placed-grow n es (x + 
 
 -- ---- the names so far
 
--- the names of t that start before i, which end at es, keep the rules and are all different, and no byte before i breaks them
-pub record Kept (t es : List ℕ) (i : ℕ) : Type 0 where
+-- the names of t that start before i, which end at es, keep the rules, are all different and have their bits in met, and no byte before i breaks them
+pub record Kept (t es : List ℕ) (met i : ℕ) : Type 0 where
   pub cut : names t ≡ cuts t 0 es ++ namesFrom t i
   pub bytes : every (inside (0x20 to 0x7E)) t ≡ plain t i
   pub sizes : every (λ n. inside (1 to 16) (length n)) (cuts t 0 es) ≡ true
   pub apart : distinct (cuts t 0 es) ≡ true
   pub placed : Placed (length t) 0 es
   pub here : next 0 es ≡ i
+  pub bits : Met met (cuts t 0 es)
 
-pub kept-none : (t : List ℕ) → Kept t [] 0
+pub kept-none : (t : List ℕ) → Kept t [] 0 0
 unfolding cuts every distinct next
-kept-none t = record { cut = names-start t; bytes = refl; sizes = refl; apart = refl; placed = none; here = refl }
+kept-none t = record { cut = names-start t; bytes = refl; sizes = refl; apart = refl; placed = none; here = refl; bits = met-none 0 }
 
 -- ---- the ways out
 
@@ -118,7 +122,7 @@ module _ (t : List ℕ) where
   unfolding soundText
   text-names h = rw (h, and-false (every (inside (0x20 to 0x7E)) t)) (and-false (inside (1 to 255) (length t)))
 
-  module _ (es : List ℕ) (i : ℕ) (s : Kept t es i) where
+  module _ (es : List ℕ) (met i : ℕ) (s : Kept t es met i) where
     pub text-sound : length t < i → 1 ≤ length t → length t ≤ 255 → soundText t ≡ true
     unfolding soundText
     text-sound h k l =
@@ -142,9 +146,9 @@ module _ (t : List ℕ) where
           text-names (rw (cut-here, distinct-again (cuts t 0 es) (part t i e) (namesFrom t (e + 1)) h)
           (and-false (every (λ n. inside (1 to 16) (length n)) (cuts t 0 es ++ (part t i e ∷ namesFrom t (e + 1))))))
 
-      pub kept-more : plain t i ≡ plain t (e + 1) → 1 ≤ e - i → e - i ≤ 16 → has (cuts t 0 es) (part t i e) ≡ false → Kept t (es ++ e ∷ []) (e + 1)
+      pub kept-more : plain t i ≡ plain t (e + 1) → 1 ≤ e - i → e - i ≤ 16 → has (cuts t 0 es) (part t i e) ≡ false → (p : ℕ) → p ≡ 2 ^ sign (part t i e) → Kept t (es ++ e ∷ []) (bitOr met p) (e + 1)
       unfolding every
-      kept-more b h k f =
+      kept-more b h k f p w =
           let g : cuts t 0 (es ++ e ∷ []) ≡ cuts t 0 es ++ (part t i e ∷ []) = rw (cuts-grow t es 0 e, s .here) refl in
           record {
             cut = cut-here ∙ rw (g, append-assoc) refl;
@@ -153,4 +157,5 @@ module _ (t : List ℕ) where
             apart = rw g (distinct-more (cuts t 0 es) (part t i e) (s .apart) f);
             placed = placed-grow (length t) es 0 e (s .placed) (omega (arith, s .here, n .from)) (n .within);
             here = next-grow es 0 e;
+            bits = rw g (met-more met (cuts t 0 es) (s .bits) (part t i e) p w);
           }

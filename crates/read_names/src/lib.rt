@@ -1,11 +1,12 @@
 // The text of an Sdec and its names (document 01, "The CASM body": Sdec), judged and compared where they lie: no name is copied.
 ghost use mathlib.Core.Path.{_≡_};
-ghost use Prim.Native.Nat.{_<_, _≤_};
+ghost use mathlib.Core.Bool.{false};
+ghost use Prim.Native.Nat.{_^_, _<_, _≤_};
 ghost use lib.ListN.{length, take};
 ghost use Rattle.layout.specs.Lists.{same, has};
 ghost use Rattle.layout.specs.Sdec.{names, soundText};
 ghost use Rattle.read_names.specs.Parts.{part, Ends, Checked, cuts, Placed};
-ghost use Rattle.read_names.specs.Marks.{mark, spread};
+ghost use Rattle.read_names.specs.Marks.{mark, spread, sign};
 use layout::limit::NAME;
 use layout::limit::TEXT;
 
@@ -88,8 +89,28 @@ fn is_again(t: &[u8], ends: &[u8; 128], m: usize, name: &[u8]) -> bool
     false
 }
 
+// The bit of a name, one of 64.
+fn bit_of(name: &[u8]) -> u64
+    requires { ⌜ 0 < length (now name) ⌝ }
+    ensures { λ r. ⌜ r ≡ 2 ^ sign (now (name .entry)) ⌝ }
+{
+    let n = name.len();
+    1u64 << ((7 * wide(name[0]) + wide(name[n - 1]) + n) % 64)
+}
+
+// The same as `is_again`. Where the name's bit is not set none of them is the name, and nothing is compared.
+fn is_met(t: &[u8], ends: &[u8; 128], m: usize, set: bool, name: &[u8]) -> bool
+    requires { ⌜ (length (now ends) ≡ 128) × ((m ≤ 128) × (Placed (length (now t)) 0 (take m (now ends)) × (set ≡ false → has (cuts (now t) 0 (take m (now ends))) (now name) ≡ false))) ⌝ }
+    ensures { λ r. ⌜ r ≡ has (cuts (now (t .entry)) 0 (take m (now (ends .entry)))) (now (name .entry)) ⌝ }
+{
+    if !set {
+        return false;
+    }
+    is_again(t, ends, m, name)
+}
+
 // Whether a text keeps the rules: 1 to 255 bytes, each 20H to 7EH, cut at commas into names of 1 to 16 bytes, no name twice.
-// Where each name so far ends is kept, at most 128 of them, so that no comma is looked for twice.
+// Where each name so far ends is kept, at most 128 of them, so that no comma is looked for twice; and the bit of each in `met`.
 pub fn is_sound_text(t: &[u8]) -> bool
     ensures { λ r. ⌜ r ≡ soundText (now (t .entry)) ⌝ }
 {
@@ -98,6 +119,7 @@ pub fn is_sound_text(t: &[u8]) -> bool
     }
     let mut ends: [u8; 128] = [0; 128];
     let mut m: usize = 0;
+    let mut met: u64 = 0;
     let mut i: usize = 0;
     while i <= t.len() {
         let e = checked_end(t, i);
@@ -110,11 +132,14 @@ pub fn is_sound_text(t: &[u8]) -> bool
         if NAME < e - i {
             return false;
         }
-        if is_again(t, &ends, m, &t[i..e]) {
+        let name = &t[i..e];
+        let with = met | bit_of(name);
+        if is_met(t, &ends, m, with == met, name) {
             return false;
         }
         ends[m] = e as u8;
         m += 1;
+        met = with;
         i = e + 1;
     }
     true

@@ -3,12 +3,12 @@ use Prim.Native.Nat.{ℕ, zero, suc, _*_, _/_, _%_, _^_, max, _<_}
 use mathlib.Core.Path.{_≡_, refl, sym, ap, _∙_}
 use mathlib.Core.Bool.{true, false}
 use native.Mathlib.Omega.{arith}
-use native.Mathlib.Nat.{pow-suc, pow-succ', one-mul, div-one, zero-div, div-div-eq-div-mul}
-use lib.Pow.{shl-exact}
+use native.Mathlib.Nat.{pow-suc, pow-succ', div-one, zero-div, div-div-eq-div-mul}
 use lib.Bits.{bitOr, or-step}
 use lib.Dec.{eqb}
 use borrow.Author.Tests.{eq-eqb, ne-eqb}
 use Rattle.layout.specs.Plays.{bit}
+use Rattle.read_names.proofs.Words.{or-half, one-bit}
 
 -- bit k as a number
 abbrev digit : ℕ → ℕ → ℕ
@@ -16,9 +16,6 @@ digit n k = n / 2 ^ k % 2
 
 digit-suc : (n k : ℕ) → digit n (suc k) ≡ digit (n / 2) k
 digit-suc n k = ap (λ (m : ℕ). m % 2) (ap (λ (m : ℕ). n / m) (pow-succ' 2 k) ∙ sym (div-div-eq-div-mul n 2 (2 ^ k)))
-
-or-half : (a b : ℕ) → bitOr a b / 2 ≡ bitOr (a / 2) (b / 2)
-or-half a b = omega (arith, or-step a b)
 
 or-digit : (k a b : ℕ) → digit (bitOr a b) k ≡ max (digit a k) (digit b k)
 or-digit zero a b = rw (div-one (bitOr a b), div-one a, div-one b) (omega (arith, or-step a b))
@@ -64,4 +61,4 @@ unfolding bit
 bit-unset n k h = ne-eqb (n / 2 ^ k % 2) 1 h
 
 pub or-shift : (n k : ℕ) → k < 64 → bitOr n ((1 * 2 ^ k) % 18446744073709551616) ≡ bitOr n (2 ^ k)
-or-shift n k l = ap (bitOr n) (shl-exact {a = 1} 1 k 64 (omega arith) (omega arith) ∙ one-mul (2 ^ k))
+or-shift n k l = ap (bitOr n) (one-bit k l)

@@ -5,9 +5,8 @@ use native.Mathlib.Nat.{pow-suc, one-mul}
 use mathlib.Core.Path.{_≡_, refl, sym, ap, _∙_}
 use lib.Pow.{pow-mono, shl-exact}
 use lib.Bits.{bitOr, or-step, or-comm, or-self}
-use Rattle.read_met.specs.Table.{bits}
 
-or-half : (a b : ℕ) → bitOr a b / 2 ≡ bitOr (a / 2) (b / 2)
+pub or-half : (a b : ℕ) → bitOr a b / 2 ≡ bitOr (a / 2) (b / 2)
 or-half a b = omega (arith, or-step a b)
 
 or-odd : (a b : ℕ) → bitOr a b % 2 ≡ max (a % 2) (b % 2)
@@ -43,15 +42,6 @@ or-again v p = or-assoc v p p ∙ ap (bitOr v) (or-self p)
 pub or-kept : (v p q : ℕ) → bitOr v q ≡ v → bitOr (bitOr v p) q ≡ bitOr v p
 or-kept v p q h = or-assoc v p q ∙ (ap (bitOr v) (or-comm p q) ∙ (sym (or-assoc v q p) ∙ ap (λ (x : ℕ). bitOr x p) h))
 
-one-bit : (k : ℕ) → k < 64 → (1 * 2 ^ k) % 18446744073709551616 ≡ 2 ^ k
+-- a bit as a shift gives it
+pub one-bit : (k : ℕ) → k < 64 → (1 * 2 ^ k) % 18446744073709551616 ≡ 2 ^ k
 one-bit k l = shl-exact {a = 1} 1 k 64 (omega arith) (omega arith) ∙ one-mul (2 ^ k)
-
--- the five bits of a mark, as five shifts give them
-abbrev shifted : ℕ → ℕ
-shifted k = (1 * 2 ^ (k % 64)) % 18446744073709551616
-
-shifted-is : (k : ℕ) → shifted k ≡ 2 ^ (k % 64)
-shifted-is k = one-bit (k % 64) (omega arith)
-
-pub bits-are : (m : ℕ) → bitOr (bitOr (bitOr (bitOr (shifted (m / 16777216)) (shifted (m / 262144))) (shifted (m / 4096))) (shifted (m / 64))) (shifted m) ≡ bits m
-bits-are m = rw (shifted-is (m / 16777216), shifted-is (m / 262144), shifted-is (m / 4096), shifted-is (m / 64), shifted-is m) refl
