@@ -36,6 +36,19 @@ static size_t group(uint8_t *at, unsigned number, unsigned channels, unsigned na
     return (size_t)(end - at);
 }
 
+/* A sound group of one channel and 80 names of two bytes, no name in two groups: near the most names that a body can hold. */
+static size_t crowded(uint8_t *at, unsigned number)
+{
+    uint8_t *end = at + 16;
+    for (unsigned i = number * 80; i < number * 80 + 80; i++) end += sprintf((char *)end, "%s%c%c", i % 80 ? "," : "", '0' + i % 75, '0' + i / 75);
+    put(at + 8, "Sdec", (size_t)(end - at - 16));
+    end = put(end, "Ctab", 27), record(end, 0), end[26] = 0, end += 27;
+    put(at, "CSEG", (size_t)(end - at - 8));
+    return (size_t)(end - at);
+}
+
+static uint8_t names[32768];
+static size_t names_size, names_half;
 static uint8_t sound[32768], damaged[32768], small[32768], csegs[32768], none[32768], edited[2][32768];
 static size_t sound_size, small_size, sound_half, small_half;
 static uint8_t few[1048576], half_few[1048576], many[1048576], half_many[1048576];
@@ -61,6 +74,7 @@ static void prepare(void)
 {
     for (unsigned k = 0; k < 32; k++) sound_half = k == 16 ? sound_size : sound_half, sound_size += group(sound + sound_size, k, 16, 16);
     for (unsigned k = 0; k < 32; k++) small_half = k == 16 ? small_size : small_half, small_size += group(small + small_size, k, 1, 10);
+    for (unsigned k = 0; k < 32; k++) names_half = k == 16 ? names_size : names_half, names_size += crowded(names + names_size, k);
     memcpy(damaged, sound, sizeof damaged);
     for (size_t at = 0, k = 0, size; at < sound_size; at += size, k++) {
         size = 8 + ((size_t)sound[at + 4] << 24 | (size_t)sound[at + 5] << 16 | (size_t)sound[at + 6] << 8 | sound[at + 7]);
@@ -247,6 +261,7 @@ static void ratios(void)
     on(many, style(many, sections, 0)), job("find, many sections", find_proved, find_plain);
     on(sound, sound_size), job("strict body, 31 KiB, 32 groups", body_proved, body_plain);
     on(small, small_size), job("strict body, 32 groups of 1 channel", body_proved, body_plain);
+    on(names, names_size), job("strict body, 32 groups of 80 names", body_proved, body_plain);
     on(sound, sound_size), job("salvage, sound", salvage_proved, salvage_plain);
     on(damaged, sound_size), job("salvage, every second group damaged", salvage_proved, salvage_plain);
     on(csegs, sizeof csegs), job("salvage, 8,192 times CSEG", salvage_proved, salvage_plain);
@@ -265,6 +280,7 @@ static void growth(void)
     doubled("find, sections doubled", find_proved, half_many, style(half_many, sections / 2, 0), 16, many, style(many, sections, 0));
     doubled("strict body, 16 to 32 groups, 31 KiB", body_proved, sound, sound_half, 16, sound, sound_size);
     doubled("strict body, 16 to 32 groups of 1 channel", body_proved, small, small_half, 16, small, small_size);
+    doubled("strict body, 16 to 32 groups of 80 names", body_proved, names, names_half, 16, names, names_size);
     doubled("salvage, sound", salvage_proved, sound, sound_half, 16, sound, sound_size);
     doubled("salvage, every second group damaged", salvage_proved, damaged, sound_half, 16, damaged, sound_size);
     doubled("salvage, 4,096 to 8,192 times CSEG", salvage_proved, csegs, sizeof csegs / 2, 16, csegs, sizeof csegs);
@@ -300,6 +316,7 @@ int main(int count, char **words)
     alike_damaged("find", few, 4096, find_proved, find_plain, 2000);
     alike_damaged("body", sound, sound_size, body_proved, body_plain, 4000);
     alike_damaged("body, short texts", small, small_size, body_proved, body_plain, 4000);
+    alike_damaged("body, many names", names, names_size, body_proved, body_plain, 4000);
     alike_damaged("salvage", sound, sound_size, salvage_proved, salvage_plain, 300);
     alike_damaged("plays", sound, sound_size, plays_proved, plays_plain, 2000);
     alike_damaged("edit", sound, sound_size, edit_proved, edit_plain, 300);

@@ -47,18 +47,23 @@ static inline _Bool alike(const uint8_t *a, const uint8_t *b, size_t n)
     return 1;
 }
 
+/* A name sets one bit of 64; where it is not set the name is new to this text, and is compared with none. */
 static _Bool sound_text(const uint8_t *t, size_t n)
 {
     uint8_t ends[128];
     size_t names = 0, from = 0;
+    uint64_t met = 0;
     if (n == 0 || n > 255) return 0;
     for (size_t i = 0; i <= n; i++) {
         if (i < n && (t[i] < 0x20 || t[i] > 0x7E)) return 0;
         if (i < n && t[i] != ',') continue;
         size_t size = i - from;
         if (size == 0 || size > 16) return 0;
-        for (size_t k = 0, start = 0; k < names; start = ends[k] + 1, k++)
-            if (ends[k] - start == size && alike(t + start, t + from, size)) return 0;
+        uint64_t bit = 1ul << ((t[from] * 7 + t[i - 1] + size) & 63);
+        if (met & bit)
+            for (size_t k = 0, start = 0; k < names; start = ends[k] + 1, k++)
+                if (ends[k] - start == size && alike(t + start, t + from, size)) return 0;
+        met |= bit;
         ends[names++] = (uint8_t)i;
         from = i + 1;
     }

@@ -1,11 +1,10 @@
-// One pass over a body. Where each group stands is kept, so that its names are found again without reading what is before them;
-// and which names were met, so that few are looked for in the groups before.
+// One pass over a body, then one over its names. Where each group stands is kept, so that its names are found again where they lie;
+// the tables are the caller's, and no name is copied (document 02, §5).
 ghost use mathlib.Core.Path.{_≡_};
 ghost use Prim.Native.Nat.{_≤_};
 ghost use lib.ListN.{length};
 ghost use Rattle.layout.specs.Body.{groupPlace};
-ghost use Rattle.read_met.specs.Before.{Places, Marks};
-ghost use Rattle.read_body.specs.Known.{GroupTurned, Surveyed};
+ghost use Rattle.read_body.specs.Known.{Lent, GroupTurned, GroupsEntered, Surveyed};
 use layout::limit::BODY;
 use layout::limit::GROUPS;
 use layout::refusal::NAME_AGAIN;
@@ -16,19 +15,17 @@ use layout::turn::Judged;
 use layout::turn::Run;
 use layout::turn::Turn;
 
-// A turn, and where it goes on how many Ctabs and Cntts the group has.
+// A turn but for its names, and where it goes on how many Ctabs and Cntts the group has.
 pub struct Turned {
     pub turn: Turn,
     pub records: usize,
     pub seconds: usize,
 }
 
-// The run, and of each group the place of its tag, how many Ctabs it has and how many Cntts.
-pub struct Survey {
+// The run but for the names, and how many groups it has before it stops or ends.
+pub struct Entered {
     pub run: Run,
-    pub places: [usize; GROUPS],
-    pub records: [u16; GROUPS],
-    pub seconds: [u16; GROUPS],
+    pub groups: usize,
 }
 
 // A turn that does not go on.
@@ -42,16 +39,10 @@ fn ending(turn: Turn) -> Turned
     }
 }
 
-// Group number n, which stands at `at`. Where the turn goes on, its names are met.
-fn group_turn(
-    s: &[u8],
-    n: usize,
-    at: usize,
-    places: &[usize; GROUPS],
-    table: &mut [u64; 256],
-) -> Turned
-    requires { ⌜ (at ≡ groupPlace (now s) n) × ((at ≤ length (now s)) × ((n ≤ 32) × (Places (now s) n (now places) × Marks (now s) n (now table)))) ⌝ }
-    ensures { λ r. ⌜ GroupTurned (now (s .entry)) n at r (now (table .exit)) ⌝ }
+// Group number n, which stands at `at`, but for its names.
+fn group_turn(s: &[u8], n: usize, at: usize) -> Turned
+    requires { ⌜ (at ≡ groupPlace (now s) n) × ((at ≤ length (now s)) × (n ≤ 32)) ⌝ }
+    ensures { λ r. ⌜ GroupTurned (now (s .entry)) n at r ⌝ }
 {
     if at == s.len() {
         return ending(Turn::Done);
@@ -65,63 +56,71 @@ fn group_turn(
     }
     match read_group::judge_headed(&s[at..]) {
         Judged::Unsound(number, place) => ending(Turn::Refused(number, at + place)),
-        Judged::Sound(_, text, records, seconds) => {
-            if read_met::is_named_before(s, n, places, table, at, text) {
-                return ending(Turn::Refused(NAME_AGAIN, at));
-            }
-            Turned {
-                turn: Turn::More,
-                records: records,
-                seconds: seconds,
-            }
-        }
+        Judged::Sound(_, _, records, seconds) => Turned {
+            turn: Turn::More,
+            records: records,
+            seconds: seconds,
+        },
     }
 }
 
-// The groups in their order, each entered in the tables; or the refusal.
+// The groups in their order, each entered in the tables, up to the first that is refused for another reason than its names.
 fn enter_groups(
     s: &[u8],
-    places: &mut [usize; GROUPS],
-    records: &mut [u16; GROUPS],
-    seconds: &mut [u16; GROUPS],
-) -> Run
-    requires { ⌜ (length (now places) ≡ 32) × ((length (now records) ≡ 32) × (length (now seconds) ≡ 32)) ⌝ }
-    ensures { λ r. ⌜ Surveyed (now (s .entry)) r (now (places .exit)) (now (records .exit)) (now (seconds .exit)) ⌝ }
+    places: &mut [u16; GROUPS],
+    records: &mut [u8; GROUPS],
+    seconds: &mut [u8; GROUPS],
+) -> Entered
+    requires { ⌜ (length (now s) ≤ 32768) × Lent (now places) (now records) (now seconds) ⌝ }
+    ensures { λ r. ⌜ GroupsEntered (now (s .entry)) r (now (places .exit)) (now (records .exit)) (now (seconds .exit)) ⌝ }
 {
-    if BODY < s.len() {
-        return Run::Stopped(OVER_LIMIT, 0);
-    }
-    let mut table: [u64; 256] = [0; 256];
     let mut n: usize = 0;
     let mut at: usize = 0;
     loop {
-        let t = group_turn(s, n, at, places, &mut table);
+        let t = group_turn(s, n, at);
         let turn = t.turn;
         match turn {
-            Turn::Refused(number, place) => return Run::Stopped(number, place),
-            Turn::Done => return Run::Ended(n),
+            Turn::Refused(number, place) => {
+                return Entered {
+                    run: Run::Stopped(number, place),
+                    groups: n,
+                };
+            }
+            Turn::Done => {
+                return Entered {
+                    run: Run::Ended(n),
+                    groups: n,
+                };
+            }
             Turn::More => {}
         }
-        places[n] = at;
-        records[n] = t.records as u16;
-        seconds[n] = t.seconds as u16;
+        places[n] = at as u16;
+        records[n] = t.records as u8;
+        seconds[n] = t.seconds as u8;
         at = at + 8 + read_bytes::word_at(s, at + 4);
         n += 1;
     }
 }
 
-// The whole body: its groups, or the refusal.
-pub fn read_groups(s: &[u8]) -> Survey
-    ensures { λ r. ⌜ Surveyed (now (s .entry)) (r .run) (r .places) (r .records) (r .seconds) ⌝ }
+// The whole body: its groups, or the refusal. Of each group the place of its tag, how many Ctabs it has and how many Cntts are put into lent tables.
+pub fn read_groups(
+    s: &[u8],
+    places: &mut [u16; GROUPS],
+    records: &mut [u8; GROUPS],
+    seconds: &mut [u8; GROUPS],
+) -> Run
+    requires { ⌜ Lent (now places) (now records) (now seconds) ⌝ }
+    ensures { λ r. ⌜ Surveyed (now (s .entry)) r (now (places .exit)) (now (records .exit)) (now (seconds .exit)) ⌝ }
 {
-    let mut places: [usize; GROUPS] = [0; GROUPS];
-    let mut records: [u16; GROUPS] = [0; GROUPS];
-    let mut seconds: [u16; GROUPS] = [0; GROUPS];
-    let run = enter_groups(s, &mut places, &mut records, &mut seconds);
-    Survey {
-        run: run,
-        places: places,
-        records: records,
-        seconds: seconds,
+    if BODY < s.len() {
+        return Run::Stopped(OVER_LIMIT, 0);
     }
+    let entered = enter_groups(s, places, records, seconds);
+    let n = entered.groups;
+    let k = read_met::first_again(s, n, places);
+    if k < n {
+        return Run::Stopped(NAME_AGAIN, read_met::wide(places[k]));
+    }
+    let run = entered.run;
+    run
 }

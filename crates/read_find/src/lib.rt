@@ -31,7 +31,7 @@ pub enum Search {
 }
 
 // Where the parts of the group at `at` stand, which has so many Ctabs and Cntts.
-fn standing_at(s: &[u8], at: usize, records: u16, seconds: u16) -> Standing
+fn standing_at(s: &[u8], at: usize, records: u8, seconds: u8) -> Standing
     requires { ⌜ (at ≤ length (now s)) × (groupAt (drop at (now s)) ≡ Sound First (word (now s) (at + 12)) records seconds) ⌝ }
     ensures { λ r. ⌜ r ≡ standingAt (now (s .entry)) at (groupAt (drop at (now (s .entry)))) ⌝ }
 {
@@ -55,9 +55,9 @@ fn standing_at(s: &[u8], at: usize, records: u16, seconds: u16) -> Standing
 fn group_numbered<'a>(
     s: &[u8],
     n: usize,
-    places: &'a [usize; GROUPS],
-    records: &'a [u16; GROUPS],
-    seconds: &'a [u16; GROUPS],
+    places: &'a [u16; GROUPS],
+    records: &'a [u8; GROUPS],
+    seconds: &'a [u8; GROUPS],
     k: usize,
 ) -> Search
     requires { ⌜ (n ≤ 32) × (Places (now s) n (now places) × Insides (now s) n (now records) (now seconds)) ⌝ }
@@ -66,7 +66,7 @@ fn group_numbered<'a>(
     if n <= k {
         return Search::Missing;
     }
-    let standing = standing_at(s, places[k], records[k], seconds[k]);
+    let standing = standing_at(s, read_met::wide(places[k]), records[k], seconds[k]);
     Search::Found(k, standing)
 }
 
@@ -74,11 +74,12 @@ fn group_numbered<'a>(
 pub fn locate_group(s: &[u8], group: usize) -> Search
     ensures { λ r. ⌜ r ≡ groupLocated (now (s .entry)) group ⌝ }
 {
-    let read = read_groups(s);
-    let run = read.run;
-    match run {
+    let mut places: [u16; GROUPS] = [0; GROUPS];
+    let mut records: [u8; GROUPS] = [0; GROUPS];
+    let mut seconds: [u8; GROUPS] = [0; GROUPS];
+    match read_groups(s, &mut places, &mut records, &mut seconds) {
         Run::Stopped(number, place) => Search::Refused(number, place),
-        Run::Ended(n) => group_numbered(s, n, &read.places, &read.records, &read.seconds, group),
+        Run::Ended(n) => group_numbered(s, n, &places, &records, &seconds, group),
     }
 }
 
@@ -86,13 +87,14 @@ pub fn locate_group(s: &[u8], group: usize) -> Search
 pub fn locate_part(s: &[u8], name: &[u8]) -> Search
     ensures { λ r. ⌜ r ≡ partLocated (now (s .entry)) (now (name .entry)) ⌝ }
 {
-    let read = read_groups(s);
-    let run = read.run;
-    match run {
+    let mut places: [u16; GROUPS] = [0; GROUPS];
+    let mut records: [u8; GROUPS] = [0; GROUPS];
+    let mut seconds: [u8; GROUPS] = [0; GROUPS];
+    match read_groups(s, &mut places, &mut records, &mut seconds) {
         Run::Stopped(number, place) => Search::Refused(number, place),
         Run::Ended(n) => {
-            let k = read_met::group_named(s, n, &read.places, name);
-            group_numbered(s, n, &read.places, &read.records, &read.seconds, k)
+            let k = read_met::group_named(s, n, &places, name);
+            group_numbered(s, n, &places, &records, &seconds, k)
         }
     }
 }

@@ -11,6 +11,7 @@ use layout::answer::Grouped;
 use layout::answer::Named;
 use layout::answer::Standing;
 use layout::edition::Edition;
+use layout::limit::GROUPS;
 use layout::record::SourceChannel;
 use layout::refusal::BAD_NUMBER;
 use layout::refusal::NOT_THERE;
@@ -38,9 +39,10 @@ pub fn section_body<'a>(file: &'a [u8], tag: usize, length: usize) -> &'a [u8]
 pub fn read_body(s: &[u8]) -> Counted
     ensures { λ r. ⌜ BodyRead (now (s .entry)) r ⌝ }
 {
-    let read = read_body::survey::read_groups(s);
-    let run = read.run;
-    match run {
+    let mut places: [u16; GROUPS] = [0; GROUPS];
+    let mut records: [u8; GROUPS] = [0; GROUPS];
+    let mut seconds: [u8; GROUPS] = [0; GROUPS];
+    match read_body::survey::read_groups(s, &mut places, &mut records, &mut seconds) {
         Run::Stopped(number, place) => Counted {
             number: number,
             place: place,

@@ -14,6 +14,7 @@ use Rattle.layout.specs.Body.{groupPlace, textAt, sharing}
 use Rattle.layout.specs.Asked.{groupNamed}
 use Rattle.layout.proofs.Scans.{first-within, first-stands, first-passed, first-none, first-alike}
 use Rattle.read_names.proofs.Compare.{same-comm}
+use Rattle.read_met.specs.Before.{taken}
 
 -- ---- two lists of names
 
@@ -70,10 +71,6 @@ module _ (n : ℕ) where
   below-any q (u ∷ us) = below-either (λ k. q k u) (λ k. any (q k) us) ∙ ap (λ (b : Bool). ltb (first (λ k. q k u) 0 n) n || b) (below-any q us)
 
 -- ---- the groups before
-
--- one of n groups has the name
-unfoldable pub taken : List ℕ → ℕ → List ℕ → Bool
-taken s n name = ltb (groupNamed s n name) n
 
 pub sharing-taken : (s : List ℕ) (n at : ℕ) → ltb (sharing s n at) n ≡ any (taken s n) (names (textAt s at))
 unfolding sharing shares taken groupNamed

@@ -13,12 +13,16 @@ pub text-there : (s : List ℕ) (at b l : ℕ) → b ≡ at + 16 → l ≡ word 
 unfolding textAt
 text-there s at b l e f = let z : b + l - b ≡ word s (at + 12) = omega arith in rw (z, e)
 
--- the text of a group whose place the table has
-module _ (s ps : List ℕ) (n k : ℕ) (known : Places s n ps) (l : k < n) where
-  pub text-fits : getD ps k 0 + 16 + word s (getD ps k 0 + 16 - 4) ≤ length s
-  text-fits = let z : getD ps k 0 + 16 - 4 ≡ getD ps k 0 + 12 = omega arith in rw z (rw (known .place k l) (known .fits k l))
+-- the text of a group whose place the table has: it starts at b
+module _ (s ps : List ℕ) (n k : ℕ) (known : Places s n ps) (l : k < n) (b : ℕ) (e : b ≡ getD ps k 0 + 16) where
+  pub text-fits : b + word s (b - 4) ≤ length s
+  text-fits = let z : b - 4 ≡ getD ps k 0 + 12 = omega arith in rw (z, e) (rw (known .place k l) (known .fits k l))
 
-  pub text-part : (w : ℕ) → w ≡ word s (getD ps k 0 + 16 - 4) → take (getD ps k 0 + 16 + w - (getD ps k 0 + 16)) (drop (getD ps k 0 + 16) s) ≡ textAt s (groupPlace s k)
-  text-part w e =
-      let z : getD ps k 0 + 16 - 4 ≡ getD ps k 0 + 12 = omega arith in
-      text-there s (getD ps k 0) (getD ps k 0 + 16) w refl (rw z at e) ∙ ap (textAt s) (known .place k l)
+  pub text-part : (w : ℕ) → w ≡ word s (b - 4) → take (b + w - b) (drop b s) ≡ textAt s (groupPlace s k)
+  text-part w f =
+      let z : b - 4 ≡ getD ps k 0 + 12 = omega arith in
+      text-there s (getD ps k 0) b w e (rw z at f) ∙ ap (textAt s) (known .place k l)
+
+-- fewer places
+pub places-fewer : (s ps : List ℕ) (n m : ℕ) → m ≤ n → Places s n ps → Places s m ps
+places-fewer s ps n m h known = record { size = known .size; place = λ k l. known .place k (omega arith); fits = λ k l. known .fits k (omega arith) }

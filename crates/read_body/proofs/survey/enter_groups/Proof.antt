@@ -1,74 +1,84 @@
--- What is still to be read is the run from group number n on; the tables hold what is known of the groups so far. n goes up, to 32 at most.
+-- The groups before number n go on but for their names, and the tables hold what is known of them. n goes up, to 32 at most.
 use Prim.Native.Nat.{ℕ, _-_, _<_, _≤_}
 use mathlib.Core.Path.{_≡_, refl, sym, _∙_}
+use mathlib.Core.Bool.{cond}
 use mathlib.Core.List.{List}
 use native.Mathlib.Omega.{arith}
-use lib.ListN.{length, length-replicate}
-use Rattle.layout.specs.Scan.{run}
-use Rattle.layout.specs.Body.{groupPlace, groupTurn, bodyRun}
-use Rattle.layout.proofs.Runs.{run-stop, run-done, run-more, not-ended}
+use lib.ListN.{length}
+use Rattle.layout.specs.Refusals.{nameAgain}
+use Rattle.layout.specs.Body.{groupPlace, groupTurn}
+use Rattle.layout.specs.declared.turn.Turn.the-variants.{Refused, More}
+use Rattle.layout.proofs.Runs.{not-ended, ended-once}
 use Rattle.layout.proofs.Bodies.{place-next}
-use Rattle.layout.proofs.Accepted.{body-over, body-within}
-use Rattle.read_met.specs.Before.{Places, Marks}
-use Rattle.read_met.proofs.Marked.{marks-start}
+use Rattle.read_met.specs.Before.{Places, again}
 use Rattle.read_body.specs.Known.{Insides}
-use Rattle.read_body.proofs.TurnLaws.{Fitting, places-start, insides-start, places-next, insides-next, more-within, counts-small, ended-known}
+use Rattle.read_body.proofs.TurnLaws.{Fitting, places-start, insides-start, places-next, insides-next, more-within, more-turn, stop-turn, done-turn, turns-next, counts-small}
 use borrow.Author.Needs.{needs}
 use Rattle.read_body.proofs.survey.enter_groups.Statement.{statement}
 use Rattle.read_body.proofs.survey.enter_groups.Tie as tie
 
 abbrev Inv-loop : tie.InvT-loop
-Inv-loop s places₀ records₀ seconds₀ table₀ n₀ at₀ places records seconds table n at =
-    (n ≤ 32) × ((at ≡ groupPlace s n) × ((at ≤ length s) × (Places s n places × (Insides s n records seconds × (Marks s n table × (bodyRun s ≡ run (groupTurn s) n 33))))))
+Inv-loop s places₀ records₀ seconds₀ n₀ at₀ places records seconds n at =
+    (n ≤ 32)
+    × ((at ≡ groupPlace s n)
+    × ((at ≤ length s) × (Places s n places × (Insides s n records seconds × ((k : ℕ) → k < n → groupTurn s k ≡ cond (again s k) (Refused nameAgain (groupPlace s k)) More)))))
 
 abbrev μ-loop : tie.MeasureT-loop
-μ-loop s places₀ records₀ seconds₀ table₀ n₀ at₀ places records seconds table n at = 33 - n
-
-returns : tie.Need-returns Inv-loop μ-loop
-returns c = record { run = sym (body-over _ (omega arith)); known = λ n e. not-ended _ _ n e }
+μ-loop s places₀ records₀ seconds₀ n₀ at₀ places records seconds n at = 33 - n
 
 loop-holds : tie.Need-loop-holds Inv-loop μ-loop
 unfolding groupPlace
 loop-holds c =
-    let p = c .before .before .pre in
-    (omega arith, (refl, (omega arith, (places-start _ _ (p .0), (insides-start _ _ _ (p .1 .0) (p .1 .1), (marks-start _ _ (length-replicate {A = ℕ} 256 0), body-within _ (omega arith)))))))
+    let p = c .before .pre .1 in
+    (omega arith, (refl, (omega arith, (places-start _ _ (p .0), (insides-start _ _ _ (p .1 .0) (p .1 .1), λ k l. absurd (omega arith))))))
 
 group-turn-requires : tie.Need-group-turn-requires Inv-loop μ-loop
-group-turn-requires c κs = let l = c .before .before .loop in (l .inv .1 .0, (l .inv .1 .1 .0, (l .inv .0, (l .inv .1 .1 .1 .0, l .inv .1 .1 .1 .1 .1 .0))))
+group-turn-requires c κs = let l = c .loop in (l .inv .1 .0, (l .inv .1 .1 .0, l .inv .0))
+
+returns : tie.Need-returns Inv-loop μ-loop
+returns c =
+    let g = c .before .before .before in
+    let l = g .before .loop in
+    record {
+      few = l .inv .0;
+      stand = l .inv .1 .1 .1 .0;
+      insides = l .inv .1 .1 .1 .1 .0;
+      turns = l .inv .1 .1 .1 .1 .1;
+      rest = stop-turn _ _ _ _ (g .group-turn .ensures) (omega (arith, l .inv .0)) _ _ (c .before .turn .given .1);
+      ended = λ n e. not-ended _ _ n e;
+    }
 
 returns-2 : tie.Need-returns-2 Inv-loop μ-loop
 returns-2 c =
-    let g = c .before .before .before in
-    let l = g .before .before .before .loop in
-    record { run = sym (l .inv .1 .1 .1 .1 .1 .1 ∙ run-stop _ _ _ _ _ (omega arith) (sym (g .group-turn .ensures .turn) ∙ c .before .turn .given .1)); known = λ n e. not-ended _ _ n e }
-
-returns-3 : tie.Need-returns-3 Inv-loop μ-loop
-returns-3 c =
     let g = c .before .before in
-    let l = g .before .before .before .loop in
+    let l = g .before .loop in
     record {
-      run = sym (l .inv .1 .1 .1 .1 .1 .1 ∙ run-done _ _ _ (omega arith) (sym (g .group-turn .ensures .turn) ∙ c .enum-told .given .1));
-      known = λ n e. ended-known _ _ _ _ _ n (l .inv .0) (l .inv .1 .1 .1 .0) (l .inv .1 .1 .1 .1 .0) e;
+      few = l .inv .0;
+      stand = l .inv .1 .1 .1 .0;
+      insides = l .inv .1 .1 .1 .1 .0;
+      turns = l .inv .1 .1 .1 .1 .1;
+      rest = done-turn _ _ _ _ (g .group-turn .ensures) (omega (arith, l .inv .0)) (c .enum-told .given .1);
+      ended = λ n e. ended-once _ n e;
     }
 
 -- a turn that goes on: where the loop stands, and what bounds the group
 abbrev here : tie.After-enum-told2 Inv-loop μ-loop → tie.At-loop Inv-loop μ-loop
-here c = c .before .before .before .before .before
+here c = c .before .before .before
 
 abbrev body : tie.After-enum-told2 Inv-loop μ-loop → List ℕ
-body c = here c .before .before .before .args .s .now
+body c = here c .before .before .args .s .now
 
 going : (c : tie.After-enum-told2 Inv-loop μ-loop) → Fitting (body c) (here c .loop .n) (here c .loop .at)
-going c = more-within _ _ _ _ _ (c .before .before .group-turn .ensures) (here c .loop .inv .1 .0) (here c .loop .inv .1 .1 .0) (c .enum-told2 .given .1)
+going c = more-within _ _ _ _ (c .before .before .group-turn .ensures) (here c .loop .inv .1 .0) (here c .loop .inv .1 .1 .0) (c .enum-told2 .given .1)
 
-small : (c : tie.After-enum-told2 Inv-loop μ-loop) → let r = c .before .before .group-turn .result in (r .records < 65536) × (r .seconds < 65536)
-small c = counts-small (body c) _ _ _ (c .before .before .group-turn .ensures .sound (c .enum-told2 .given .1)) (omega arith)
+small : (c : tie.After-enum-told2 Inv-loop μ-loop) → let r = c .before .before .group-turn .result in (r .records < 256) × (r .seconds < 256)
+small c = counts-small (body c) _ _ _ (c .before .before .group-turn .ensures .sound (c .enum-told2 .given .1))
 
 loop-again : tie.Need-loop-again Inv-loop μ-loop
 loop-again c =
     let e = c .before .before .before in
     let g = e .before .before in
-    let l = g .before .before .before .loop in
+    let l = g .before .loop in
     let more = going e in
     let told = g .group-turn .ensures .sound (e .enum-told2 .given .1) in (
       omega (arith, more .0),
@@ -80,10 +90,7 @@ loop-again c =
             places-next _ _ _ (more .0) (l .inv .1 .0) _ (l .inv .1 .1 .1 .0) (more .1 .1),
             (
               insides-next _ _ _ (more .0) (l .inv .1 .0) _ _ _ _ (l .inv .1 .1 .1 .1 .0) told,
-              (
-                g .group-turn .ensures .noted (e .enum-told2 .given .1),
-                l .inv .1 .1 .1 .1 .1 .1 ∙ run-more _ _ _ (omega arith) (sym (g .group-turn .ensures .turn) ∙ e .enum-told2 .given .1),
-              ),
+              turns-next _ _ (l .inv .1 .1 .1 .1 .1) (more-turn _ _ _ _ (g .group-turn .ensures) (l .inv .1 .0) (e .enum-told2 .given .1)),
             ),
           ),
         ),
@@ -96,21 +103,19 @@ enter-groups-spec =
     (tie.spec
     Inv-loop
     μ-loop
-    returns
     loop-holds
     group-turn-requires
     (λ c. search needs)
+    returns
+    (λ c. search needs)
     returns-2
     (λ c. search needs)
-    returns-3
-    (λ c. search needs)
+    (λ c. omega (arith, going c .1 .0, here c .before .before .pre .0))
     (λ c. search needs)
     (λ c. going c .0)
     (λ c. omega (arith, small (c .before) .0))
-    (λ c. search needs)
     (λ c. going (c .before) .0)
     (λ c. omega (arith, small (c .before .before) .1))
-    (λ c. search needs)
     (λ c. going (c .before .before) .0)
     (λ c. omega (arith, going (c .before .before) .1 .0))
     (λ c. search needs)

@@ -1,68 +1,51 @@
--- The header, the count, the group and its names in their order: one law for each way out.
+-- The header, the count and the group in their order: one law for each way out.
 use mathlib.Core.Path.{refl, sym, _∙_}
 use native.Mathlib.Omega.{arith}
-use Rattle.read_body.proofs.TurnLaws.{turned-end, turned-head, turned-many, turned-unsound, turned-again, turned-more, headed-there, place-within, text-is}
+use Rattle.read_body.proofs.TurnLaws.{turned-end, turned-head, turned-many, turned-unsound, turned-more, headed-there, place-within}
 use borrow.Author.Needs.{needs}
 use Rattle.read_body.proofs.survey.group_turn.Statement.{statement}
 use Rattle.read_body.proofs.survey.group_turn.Tie as tie
 
 returns : tie.Need-returns
-returns c = turned-end _ _ _ (c .before .before .before .pre .0) _ _ (c .before .if1 .taken) (c .ending .ensures)
+returns c = turned-end _ _ _ (c .before .before .before .pre .0) _ (c .before .if1 .taken) (c .ending .ensures)
 
 returns-2 : tie.Need-returns-2
 returns-2 c =
     let f = c .before .before in
-    turned-head _ _ _ (f .before .before .before .pre .0) _ _ (f .before .if1 .left) _ (f .head-fault .ensures) (c .before .if2 .taken) (c .ending2 .ensures)
+    turned-head _ _ _ (f .before .before .before .pre .0) _ (f .before .if1 .left) _ (f .head-fault .ensures) (c .before .if2 .taken) (c .ending2 .ensures)
 
 returns-3 : tie.Need-returns-3
 returns-3 c =
     let f = c .before .before .before in
-    turned-many _ _ _ (f .before .before .before .pre .0) _ _ (f .before .if1 .left) _ (f .head-fault .ensures) (c .before .before .if2 .left) (omega arith) (c .ending3 .ensures)
+    turned-many _ _ _ (f .before .before .before .pre .0) _ (f .before .if1 .left) _ (f .head-fault .ensures) (c .before .before .if2 .left) (omega arith) (c .ending3 .ensures)
 
 judge-headed-requires : tie.Need-judge-headed-requires
 judge-headed-requires c κs =
     let f = c .before .before .before in
     headed-there _ _ (f .before .before .before .pre .1 .0) _ (f .head-fault .ensures) (c .before .before .if2 .left)
 
-add-t22 : tie.Need-add-t22
-add-t22 c =
+add-t19 : tie.Need-add-t19
+add-t19 c =
     let j = c .before .before .before in
     let a = j .before .before .before .before .before .before .before in
     let g = c .before .number .given in
     omega (arith, place-within (a .args .s .now) (a .args .at) (a .pre .1 .0) (g .0 .0) (g .0 .1 .0) (sym (j .judge-headed .ensures) ∙ g .1))
 
-is-named-before-requires : tie.Need-is-named-before-requires
-is-named-before-requires c κs =
-    let j = c .before .before .before .before in
-    let a = j .before .before .before .before .before .before .before in
-    let is = sym (j .judge-headed .ensures) ∙ c .before .before .text .given .1 in
-    (omega arith, (a .pre .1 .1 .1 .0, (a .pre .1 .1 .1 .1, text-is _ _ (a .pre .1 .0) _ _ _ _ is)))
-
 returns-4 : tie.Need-returns-4
 returns-4 c =
-    let j = c .before .before .before .before .before .before .before in
-    let f = j .before .before .before .before in
-    let a = f .before .before .before in
-    let is = sym (j .judge-headed .ensures) ∙ c .before .before .before .before .before .text .given .1 in
-    turned-again _ _ _ (a .pre .0) _ _ (f .before .if1 .left) _ (f .head-fault .ensures) (j .before .before .before .if2 .left) (omega arith) (a .pre .1 .0) _ _ _ _ is
-    (rw (c .before .if4 .taken) at (c .before .before .is-named-before .ensures)) (c .ending5 .ensures)
-
-returns-5 : tie.Need-returns-5
-returns-5 c =
     let j = c .before .before .before .before in
     let f = j .before .before .before .before in
     let a = f .before .before .before in
     let is = sym (j .judge-headed .ensures) ∙ c .before .before .number .given .1 in
-    turned-unsound _ _ _ (a .pre .0) _ _ (f .before .if1 .left) _ (f .head-fault .ensures) (j .before .before .before .if2 .left) (omega arith) (a .pre .1 .0) _ _ is (c .ending4 .ensures)
+    turned-unsound _ _ _ (a .pre .0) _ (f .before .if1 .left) _ (f .head-fault .ensures) (j .before .before .before .if2 .left) (omega arith) (a .pre .1 .0) _ _ is (c .ending4 .ensures)
 
-returns-6 : tie.Need-returns-6
-returns-6 c =
-    let j = c .before .before .before .before .before .before in
+returns-5 : tie.Need-returns-5
+returns-5 c =
+    let j = c .before .before .before in
     let f = j .before .before .before .before in
     let a = f .before .before .before in
-    let is = sym (j .judge-headed .ensures) ∙ c .before .before .before .before .text .given .1 in
-    turned-more _ _ _ (a .pre .0) _ _ (f .before .if1 .left) _ (f .head-fault .ensures) (j .before .before .before .if2 .left) (omega arith) (a .pre .1 .0) _ _ _ _ is
-    (rw (c .if4 .left) at (c .before .is-named-before .ensures)) refl refl refl
+    let is = sym (j .judge-headed .ensures) ∙ c .before .records .given .1 in
+    turned-more _ _ _ (a .pre .0) _ (f .before .if1 .left) _ (f .head-fault .ensures) (j .before .before .before .if2 .left) (omega arith) (a .pre .1 .0) _ _ _ _ is refl refl refl
 
 pub group-turn-spec : {M : Type 1} → statement M
 group-turn-spec =
@@ -80,11 +63,8 @@ group-turn-spec =
     (λ c. search needs)
     judge-headed-requires
     (λ c. search needs)
-    add-t22
+    add-t19
     (λ c κs. search needs)
     (λ c. search needs)
-    is-named-before-requires
-    (λ c κs. search needs)
     returns-4
-    returns-5
-    returns-6)
+    returns-5)

@@ -8,7 +8,7 @@ use Rattle.read_met.proofs.table.meet.Tie as tie
 returns : tie.Need-returns
 returns c =
     let a = c .before .before in
-    meeting (a .args .table .now) (a .args .mark) (omega (arith, a .pre .0)) _ (c .bits-of .ensures)
+    meeting (a .args .table .now) (a .args .mark) (omega (arith, a .pre)) _ (c .bits-of .ensures)
 
 pub meet-spec : {M : Type 1} → statement M
 meet-spec = tie.close (tie.spec (λ c. search needs) (λ c. search needs) (λ c κs. search needs) (λ c. search needs) (λ c. search needs) returns)
