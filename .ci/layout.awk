@@ -19,7 +19,24 @@ FILENAME ~ /Ranges\.antt$/ && list != "" {
     }
     if (/∷ \[\]/) list = ""
 }
+# The second edition's bytes from 20 on; a set's table, which the rule before it decides too, is 00-8A, and the rest of the set stands behind it.
+FILENAME ~ /Ranges\.antt$/ && second && !/^ *--/ {
+    line = $0
+    while (match(line, /0x[0-9A-F]+ to 0x[0-9A-F]+|\) table/)) {
+        token = substr(line, RSTART, RLENGTH)
+        line = substr(line, RSTART + RLENGTH)
+        if (token == ") table") {
+            later[20 + laters++] = "00-8A"
+            for (k = 0; k < many["setRanges"]; k++) later[20 + laters++] = bytes_of["setRanges", k]
+            continue
+        }
+        split(token, bound, / to /)
+        later[20 + laters++] = substr(bound[1], 3) "-" substr(bound[2], 3)
+    }
+    if (/∷ \[\]/) second = 0
+}
 FILENAME ~ /Ranges\.antt$/ && /^ranges Second =/ {
+    second = 1
     for (k = 0; k < many["commonRanges"]; k++) range[bytes++] = bytes_of["commonRanges", k]
     for (k = 0; k < 2; k++) range[bytes++] = bytes_of["first", k]
     for (k = 0; k < many["setRanges"]; k++) range[bytes++] = bytes_of["setRanges", k]
@@ -48,6 +65,13 @@ part == "The record" && cell[2] ~ /^[0-9]+(-[0-9]+)?$/ {
         met++
     }
 }
+part == "The record of the second edition" && cell[2] ~ /^[0-9]+(-[0-9]+)?$/ {
+    split(cell[2], place, "-"); last = place[2] == "" ? place[1] : place[2]
+    for (k = place[1] + 0; k <= last + 0; k++) {
+        if (spelled(cell[4]) != later[k]) print "docs/LAYOUT.md: byte " k " of a Ctb2 is " spelled(cell[4]) ", and " later[k] " in Ranges.ranges"
+        metLater++
+    }
+}
 part == "Who plays" && cell[2] ~ /^[0-9]+-[0-9]+$/ {
     split(cell[2], place, "-"); names = cell[4]; sub(/;.*/, "", names); split(names, told, ", ")
     for (k = place[1] + 0; k <= place[2] + 0; k++) {
@@ -64,6 +88,7 @@ part == "Refusals" && cell[5] ~ /^`Refusals\./ {
 
 END {
     if (met != bytes || bytes == 0) print "docs/LAYOUT.md has " met + 0 " bytes of the record, Ranges.ranges " bytes + 0
+    if (metLater != laters || laters != 27) print "docs/LAYOUT.md has " metLater + 0 " bytes of a Ctb2 from 20 on, Ranges.ranges " laters + 0
     if (named != types || types == 0) print "docs/LAYOUT.md has " named + 0 " chord types, Plays.chordTypes " types + 0
     if (refused != numbers - 1) print "docs/LAYOUT.md has " refused + 0 " refusals, Refusals " numbers - 1
 }

@@ -24,12 +24,40 @@ static void record(uint8_t *b, uint8_t channel)
     for (int k = 1; k < 9; k++) b[k] = (uint8_t)('A' + any(26));
 }
 
-/* A sound group of so many channels, each with a Cntt; its parts are named after its number, 15 bytes each, so that 16 of them fill a text. Its length is returned. */
-static size_t group(uint8_t *at, unsigned number, unsigned channels, unsigned names)
+/* All 47 bytes of one of the second edition. Each set's rule is 0 or 1, or now and then 2, and its table one that the rule allows. */
+static void second_record(uint8_t *b, uint8_t channel)
+{
+    record(b, channel);
+    b[20] = (uint8_t)any(128), b[21] = (uint8_t)any(128);
+    for (uint8_t *set = b + 22; set != b + 40; set += 6) {
+        set[0] = (uint8_t)(any(8) ? any(2) : 2), set[1] = (uint8_t)(any(set[0] == 2 ? 3 : 11) | any(2) << 7), set[2] = (uint8_t)any(12);
+        set[3] = (uint8_t)any(128), set[4] = (uint8_t)any(128), set[5] = (uint8_t)any(6);
+    }
+    for (int k = 40; k < 47; k++) b[k] = (uint8_t)any(256);
+}
+
+/* The header and Sdec of a group; its parts are named after its number, 15 bytes each, so that 16 of them fill a text. Where its records begin is returned. */
+static uint8_t *named(uint8_t *at, unsigned number, unsigned names)
 {
     uint8_t *end = at + 16;
     for (unsigned i = 0; i < names; i++) end += sprintf((char *)end, "%sPart %c%c n %05u", i ? "," : "", 'A' + number / 10, '0' + number % 10, i);
     put(at + 8, "Sdec", (size_t)(end - at - 16));
+    return end;
+}
+
+/* A sound group of so many channels of the second edition. Its length is returned. */
+static size_t second_group(uint8_t *at, unsigned number, unsigned channels, unsigned names)
+{
+    uint8_t *end = named(at, number, names);
+    for (unsigned i = 0; i < channels; i++) end = put(end, "Ctb2", 47), second_record(end, (uint8_t)i), end += 47;
+    put(at, "CSEG", (size_t)(end - at - 8));
+    return (size_t)(end - at);
+}
+
+/* A sound group of so many channels, each with a Cntt. Its length is returned. */
+static size_t group(uint8_t *at, unsigned number, unsigned channels, unsigned names)
+{
+    uint8_t *end = named(at, number, names);
     for (unsigned i = 0; i < channels; i++) end = put(end, "Ctab", 27), record(end, (uint8_t)i), end[26] = 0, end += 27;
     for (unsigned i = 0; i < channels; i++) end = put(end, "Cntt", 2), end[0] = (uint8_t)i, end[1] = 0x81, end += 2;
     put(at, "CSEG", (size_t)(end - at - 8));
@@ -51,10 +79,12 @@ static uint8_t names[32768];
 static size_t names_size, names_half;
 static uint8_t sound[32768], damaged[32768], small[32768], csegs[32768], none[32768], edited[2][32768];
 static size_t sound_size, small_size, sound_half, small_half;
+static uint8_t second[32768], second_damaged[32768], both[32768];
+static size_t second_size, second_half, both_size;
 static uint8_t few[1048576], half_few[1048576], many[1048576], half_many[1048576];
 static size_t list[2][24579];
-static uint8_t table[40 * CASM_ROW_SIZE], buffer[2][2048];
-static casm_row rows[4096];
+static uint8_t table[40 * CASM_ROW_SIZE], second_table[40 * CASM_ROW_SIZE], buffer[2][2048];
+static casm_row rows[4096], second_rows[4096];
 static size_t sections = 2000;
 
 static size_t style(uint8_t *file, size_t sections, size_t filler)
@@ -70,16 +100,36 @@ static size_t style(uint8_t *file, size_t sections, size_t filler)
     return (size_t)(at + 22 - file);
 }
 
+static size_t length_at(const uint8_t *at) { return (size_t)at[4] << 24 | (size_t)at[5] << 16 | (size_t)at[6] << 8 | at[7]; }
+
+/* A copy of a sound body with the length of every second group spoilt. */
+static void spoil(uint8_t *to, const uint8_t *from, size_t size)
+{
+    memcpy(to, from, size);
+    for (size_t at = 0, k = 0; at < size; at += 8 + length_at(from + at), k++)
+        if (k % 2) to[at + 7] ^= 1;
+}
+
+/* The second edition: 28 groups of 16 channels, the most that a body holds where texts are full; a body of both editions, groups without records among them. */
+static void prepare_second(void)
+{
+    for (unsigned k = 0; k < 28; k++) second_half = k == 14 ? second_size : second_half, second_size += second_group(second + second_size, k, 16, 16);
+    spoil(second_damaged, second, second_size);
+    for (unsigned k = 0; k < 32; k++) both_size += (k % 8 < 6 ? second_group : group)(both + both_size, k, k % 4 ? k % 8 : 0, 2);
+    for (int i = 0; i < 40; i++) second_table[CASM_ROW_SIZE * i] = 2, second_record(second_table + CASM_ROW_SIZE * i + 1, (uint8_t)(i % 16));
+    for (int i = 0; i < 4096; i++) {
+        casm_row *row = &second_rows[i];
+        row->edition = 2, second_record(row->bytes, (uint8_t)(i % 16));
+        for (uint8_t *set = row->bytes + 22; set != row->bytes + 40; set += 6) set[0] = 0;
+    }
+}
+
 static void prepare(void)
 {
     for (unsigned k = 0; k < 32; k++) sound_half = k == 16 ? sound_size : sound_half, sound_size += group(sound + sound_size, k, 16, 16);
     for (unsigned k = 0; k < 32; k++) small_half = k == 16 ? small_size : small_half, small_size += group(small + small_size, k, 1, 10);
     for (unsigned k = 0; k < 32; k++) names_half = k == 16 ? names_size : names_half, names_size += crowded(names + names_size, k);
-    memcpy(damaged, sound, sizeof damaged);
-    for (size_t at = 0, k = 0, size; at < sound_size; at += size, k++) {
-        size = 8 + ((size_t)sound[at + 4] << 24 | (size_t)sound[at + 5] << 16 | (size_t)sound[at + 6] << 8 | sound[at + 7]);
-        if (k % 2) damaged[at + 7] ^= 1;
-    }
+    spoil(damaged, sound, sound_size);
     for (size_t i = 0; i < sizeof csegs; i++) csegs[i] = (uint8_t)"CSEG"[i % 4], none[i] = (uint8_t)any(256);
     for (size_t i = 0; i + 3 < sizeof none; i++)
         if (memcmp(none + i, "CSEG", 4) == 0) none[i] = 0;
@@ -89,7 +139,9 @@ static void prepare(void)
         record(row + 1, (uint8_t)i), row[0] = 1, row[48] = (uint8_t)(i % 2), row[49] = i % 2 ? 0x84 : 0, row[50] = i % 2 ? (uint8_t)((i / 2 ^ 1) + 1) : 0;
     }
     memcpy(table + 16 * CASM_ROW_SIZE, table, 16 * CASM_ROW_SIZE), memcpy(table + 32 * CASM_ROW_SIZE, table, 8 * CASM_ROW_SIZE);
-    for (int i = 0; i < 4096; i++) record(rows[i].bytes, (uint8_t)(i % 16)), rows[i].bytes[20] = 0, rows[i].has_cntt = i % 2, rows[i].cntt = i % 2 ? 0x81 : 0;
+    for (int i = 0; i < 4096; i++)
+        rows[i].edition = 1, record(rows[i].bytes, (uint8_t)(i % 16)), rows[i].bytes[20] = 0, rows[i].has_cntt = i % 2, rows[i].cntt = i % 2 ? 0x81 : 0;
+    prepare_second();
 }
 
 /* ---- both sides of a job: one call each, its answer folded into a number that both must agree on */
@@ -104,7 +156,9 @@ static uint64_t lent(const void *at, size_t size)
 
 static const uint8_t *in;
 static size_t in_size;
-static size_t written = 16;     /* records of a group that is written */
+static uint8_t *from = table;   /* the table of a group that is written .. */
+static size_t written = 16;     /* .. and how many records of it */
+static casm_row *placed = rows; /* the records of notes that are placed, and of an edit */
 static size_t numbers = 24576; /* numbers of the lent list */
 static int checking; /* lent memory is folded in only where answers are compared */
 
@@ -120,13 +174,13 @@ static uint64_t salvage_plain(void) SALVAGE(plain_salvage, list[1])
 #define PLAYS(call) { casm_players r = call(in, in_size, (const uint8_t *)"Part B5 n 00003", 15, 7, 20); return mix(mix(mix(r.number, r.place), r.count), lent(r.channels, 16)); }
 static uint64_t plays_proved(void) PLAYS(casm_plays)
 static uint64_t plays_plain(void) PLAYS(plain_plays)
-#define PLACE(call) { uint64_t h = 0; for (unsigned i = 0; i < 4096; i++) { casm_note r = call(rows[i], (uint8_t)(i % 12), (uint8_t)(i % 128)); h = mix(h, mix(mix(r.number, r.place), r.note)); } return h; }
+#define PLACE(call) { uint64_t h = 0; for (unsigned i = 0; i < 4096; i++) { casm_note r = call(placed[i], (uint8_t)(i % 12), (uint8_t)(i % 128)); h = mix(h, mix(mix(r.number, r.place), r.note)); } return h; }
 static uint64_t place_proved(void) PLACE(casm_place)
 static uint64_t place_plain(void) PLACE(plain_place)
-#define WRITE(call, b) { casm_length r = call((const uint8_t *)"Main A,Main B", 13, table, sizeof table, written, b, 2048); return mix(mix(mix(r.number, r.place), r.length), checking ? lent(b, 2048) : 0); }
+#define WRITE(call, b) { casm_length r = call((const uint8_t *)"Main A,Main B", 13, from, sizeof table, written, b, 2048); return mix(mix(mix(r.number, r.place), r.length), checking ? lent(b, 2048) : 0); }
 static uint64_t write_proved(void) WRITE(casm_write, buffer[0])
 static uint64_t write_plain(void) WRITE(plain_write, buffer[1])
-#define EDIT(call, b) { casm_answer r = call(b, in_size, 15, 7, rows[7]); return mix(mix(r.number, r.place), checking ? lent(b, in_size) : 0); }
+#define EDIT(call, b) { casm_answer r = call(b, in_size, 15, 7, placed[7]); return mix(mix(r.number, r.place), checking ? lent(b, in_size) : 0); }
 static uint64_t edit_proved(void) EDIT(casm_edit, edited[0])
 static uint64_t edit_plain(void) EDIT(plain_edit, edited[1])
 
@@ -140,30 +194,57 @@ static void alike(const char *job, uint64_t (*proved)(void), uint64_t (*plain)(v
     if (a != b) printf("%s: the answers differ\n", job), exit(1);
 }
 
+/* The next tag of a record or a Cntt becomes another: so editions meet in one group. */
+static void other_tag(uint8_t *at, const uint8_t *end)
+{
+    static const char *const tags[3] = {"Ctab", "Ctb2", "Cntt"};
+    for (; end - at >= 4; at++)
+        if (at[0] == 'C' && (at[1] == 't' || at[1] == 'n') && (at[2] == 'a' || at[2] == 'b' || at[2] == 't')) {
+            memcpy(at, tags[any(3)], 4);
+            return;
+        }
+}
+
 /* The same call on damaged copies of its input. */
-static void alike_damaged(const char *job, const uint8_t *from, size_t size, uint64_t (*proved)(void), uint64_t (*plain)(void), int times)
+static void alike_damaged(const char *job, const uint8_t *input, size_t size, uint64_t (*proved)(void), uint64_t (*plain)(void), int times)
 {
     static uint8_t copy[1048576];
     for (int i = 0; i < times; i++) {
-        memcpy(copy, from, size);
+        memcpy(copy, input, size);
         for (unsigned k = 0, n = any(4); k < n; k++) copy[any((uint32_t)size)] = (uint8_t)any(256);
+        if (any(8) == 0) other_tag(copy + any((uint32_t)size), copy + size);
         in = copy, in_size = any(3) ? size : any((uint32_t)size + 1);
         memcpy(edited[0], copy, in_size < 32768 ? in_size : 32768), memcpy(edited[1], copy, in_size < 32768 ? in_size : 32768);
         alike(job, proved, plain);
     }
 }
 
-/* Writing from damaged tables, some of them too short for the count, some with more records than a group may have. */
-static void alike_written(int times)
+/* Writing from damaged tables, some of them too short for the count, some with more records than a group may have, some with records of both editions. */
+static void alike_written(uint8_t *lent_table, int times)
 {
     uint8_t kept[sizeof table];
-    memcpy(kept, table, sizeof table);
-    for (int i = 0; i < times; i++, memcpy(table, kept, sizeof table)) {
-        for (unsigned k = 0, n = any(3); k < n; k++) table[any(sizeof table)] = (uint8_t)any(256);
+    memcpy(kept, lent_table, sizeof table);
+    from = lent_table;
+    for (int i = 0; i < times; i++, memcpy(lent_table, kept, sizeof table)) {
+        for (unsigned k = 0, n = any(3); k < n; k++) lent_table[any(sizeof table)] = (uint8_t)any(256);
+        if (any(8) == 0) lent_table[CASM_ROW_SIZE * any(20)] = (uint8_t)any(3);
         written = any(3) ? 16 : any(44);
         alike("write", write_proved, write_plain);
     }
-    written = 16;
+    from = table, written = 16;
+}
+
+/* Placing by rows with a byte changed in every fourth, or its edition. */
+static void alike_placed(casm_row *lent_rows, int times)
+{
+    static casm_row changed[4096];
+    placed = changed;
+    for (int i = 0; i < times; i++) {
+        memcpy(changed, lent_rows, sizeof changed);
+        for (int k = 0; k < 4096; k += 4) *((uint8_t *)&changed[k] + any(CASM_ROW_SIZE)) = (uint8_t)(any(2) ? any(256) : any(4));
+        alike("place", place_proved, place_plain);
+    }
+    placed = rows;
 }
 
 static double now(void)
@@ -202,8 +283,12 @@ static void job(const char *name, uint64_t (*proved)(void), uint64_t (*plain)(vo
     fflush(NULL);
 }
 
-static void on(const uint8_t *from, size_t size) { in = from, in_size = size; }
-static void sized(const uint8_t *from, size_t size, size_t records) { on(from, size), written = records, numbers = 3 * (size / 4 + 1); }
+static void on(const uint8_t *input, size_t size) { in = input, in_size = size; }
+static void sized(const uint8_t *input, size_t size, size_t records) { on(input, size), written = records, numbers = 3 * (size / 4 + 1); }
+
+/* What is placed, written and edited is of the first edition, or of the second. */
+static void of_first(void) { placed = rows, from = table, memcpy(edited[0], sound, sizeof sound), memcpy(edited[1], sound, sizeof sound); }
+static void of_second(void) { placed = second_rows, from = second_table, memcpy(edited[0], second, sizeof second), memcpy(edited[1], second, sizeof second); }
 
 /* What the call costs on an input of twice the size: the median of the rounds, each of which times both. */
 static void doubled(const char *name, uint64_t (*call)(void), const uint8_t *half, size_t half_size, size_t half_written, const uint8_t *whole, size_t size)
@@ -269,8 +354,16 @@ static void ratios(void)
     on(sound, sound_size), job("who plays", plays_proved, plays_plain);
     job("place, 4,096 notes", place_proved, place_plain);
     job("write, 16 records", write_proved, write_plain);
-    memcpy(edited[0], sound, sizeof sound), memcpy(edited[1], sound, sizeof sound);
-    on(sound, sound_size), job("edit", edit_proved, edit_plain);
+    of_first(), on(sound, sound_size), job("edit", edit_proved, edit_plain);
+    of_second(), on(second, second_size), job("second edition: strict body, 28 groups", body_proved, body_plain);
+    job("second edition: salvage, sound", salvage_proved, salvage_plain);
+    job("second edition: who plays", plays_proved, plays_plain);
+    job("second edition: edit", edit_proved, edit_plain);
+    job("second edition: place, 4,096 notes", place_proved, place_plain);
+    job("second edition: write, 16 records", write_proved, write_plain);
+    on(second_damaged, second_size), job("second edition: salvage, half damaged", salvage_proved, salvage_plain);
+    on(both, both_size), job("salvage, groups of both editions", salvage_proved, salvage_plain);
+    of_first();
 }
 
 static void growth(void)
@@ -288,6 +381,14 @@ static void growth(void)
     doubled("who plays, 16 to 32 groups", plays_proved, sound, sound_half, 16, sound, sound_size);
     doubled("write, 8 to 16 records", write_proved, NULL, 0, 8, NULL, 0);
     doubled("edit, 16 to 32 groups", edit_proved, edited[0], sound_half, 16, edited[0], sound_size);
+    of_second();
+    doubled("second edition: strict body, 14 to 28 groups", body_proved, second, second_half, 16, second, second_size);
+    doubled("second edition: salvage, sound", salvage_proved, second, second_half, 16, second, second_size);
+    doubled("second edition: salvage, half damaged", salvage_proved, second_damaged, second_half, 16, second_damaged, second_size);
+    doubled("second edition: who plays", plays_proved, second, second_half, 16, second, second_size);
+    doubled("second edition: write, 8 to 16 records", write_proved, NULL, 0, 8, NULL, 0);
+    doubled("second edition: edit, 14 to 28 groups", edit_proved, edited[0], second_half, 16, edited[0], second_size);
+    of_first();
 }
 
 static void stacks(void)
@@ -320,7 +421,17 @@ int main(int count, char **words)
     alike_damaged("salvage", sound, sound_size, salvage_proved, salvage_plain, 300);
     alike_damaged("plays", sound, sound_size, plays_proved, plays_plain, 2000);
     alike_damaged("edit", sound, sound_size, edit_proved, edit_plain, 300);
-    alike_written(2000);
+    alike_damaged("second body", second, second_size, body_proved, body_plain, 4000);
+    alike_damaged("second salvage", second, second_size, salvage_proved, salvage_plain, 300);
+    alike_damaged("second plays", second, second_size, plays_proved, plays_plain, 2000);
+    alike_damaged("an edit's record of the other edition", second, second_size, edit_proved, edit_plain, 300);
+    placed = second_rows;
+    alike_damaged("second edit", second, second_size, edit_proved, edit_plain, 300);
+    alike_damaged("body of both editions", both, both_size, body_proved, body_plain, 4000);
+    alike_damaged("salvage of both editions", both, both_size, salvage_proved, salvage_plain, 300);
+    alike_damaged("edit of both editions", both, both_size, edit_proved, edit_plain, 300);
+    alike_placed(rows, 50), alike_placed(second_rows, 50);
+    alike_written(table, 2000), alike_written(second_table, 2000);
     printf("alike on damaged inputs\n");
     ratios(), growth(), stacks();
     return 0;

@@ -1,4 +1,4 @@
-/* That include/casm.h fits the archive is shown by no proof, so it is tried: every call and wrapper, on inputs whose answers document 01 gives.
+/* That include/casm.h fits the archive is shown by no proof, so it is tried: every call and wrapper, on inputs whose answers documents 01 and 02 give.
  * bench/header builds this as C99 and as C++ and runs it. Each test that fails is printed by its name, and the program then ends with status 1. */
 #include "casm.h"
 
@@ -76,6 +76,26 @@ static void prepare(void) {
     test("write: later bytes are kept", body[BODY_SIZE] == 0xEE);
 }
 
+/* A Ctb2 by hand. Notes 48-72 are the middle ones; below, root transposition by table 01, high key 5, notes 36-60; between, root fixed and bypass;
+ * above, rule 2. The seven bytes behind are kept, whatever they are. */
+#define SECOND(channel) \
+    "Ctb2\0\0\0\57" channel "Strings \12\0\17\377\3\377\377\377\377\0\2\60\110" \
+    "\0\1\5\44\74\1" "\1\200\13\0\177\0" "\2\2\13\0\177\0" "\0\0\0\0\200\0\377"
+enum { SECOND_SIZE = 55, NEWER_GROUP = M_SIZE + 2 * SECOND_SIZE, NEWER_SIZE = NEWER_GROUP + M_SIZE };
+
+/* A body of the second edition: a group of channels 3 and 7, and one without records. */
+static const unsigned char newer[NEWER_SIZE + 1] = "CSEG\0\0\0\174Sdec\0\0\0\6Main A" SECOND("\3") SECOND("\7") "CSEG\0\0\0\16Sdec\0\0\0\6Main B";
+
+/* The record of its channel 3, as a row. */
+static casm_row second_record(unsigned char channel) {
+    casm_row row;
+    memset(&row, 0, sizeof row);
+    row.edition = CASM_SECOND_EDITION;
+    memcpy(row.bytes, newer + M_SIZE + 8, CASM_SECOND_BYTES);
+    row.bytes[0] = channel;
+    return row;
+}
+
 /* ---- reading */
 
 static void test_find(void) {
@@ -114,8 +134,9 @@ static void test_group(void) {
     test("group: its text", bounds.text_at == 16 && bounds.text_length == 6);
     test("group: its records", bounds.records_at == M_SIZE && bounds.records == 3);
     test("group: its Cntts", bounds.cntts_at == M_SIZE + 3 * 35 && bounds.cntts == 1);
+    test("group: its edition", bounds.edition == CASM_FIRST_EDITION);
     bounds = casm_group(body, BODY_SIZE, 1);
-    test("group: no such group", bounds.number == CASM_BAD_NUMBER && bounds.place == 0 && bounds.size == 0 && bounds.cntts == 0);
+    test("group: no such group", bounds.number == CASM_BAD_NUMBER && bounds.place == 0 && bounds.size == 0 && bounds.cntts == 0 && bounds.edition == 0);
 }
 
 static void test_channel(void) {
@@ -226,10 +247,10 @@ static void test_field(void) {
     test("field: no such byte", edited.number == CASM_BAD_NUMBER && edited.place == 0 && memcmp(&edited.held, &row, sizeof row) == 0);
     row.has_cntt = 7;
     test("field: has_cntt comes back as 1", casm_field(row, 24, 100).held.has_cntt == 1);
-    row.edition = 2;
+    row.edition = 7;
     row.bytes[CASM_FIRST_BYTES] = row.bytes[46] = 0xFF;
     edited = casm_field(row, 24, 100);
-    test("field: the edition comes back as the first", edited.number == CASM_ACCEPTED && edited.held.edition == CASM_FIRST_EDITION);
+    test("field: edition 7 comes back as the first", edited.number == CASM_ACCEPTED && edited.held.edition == CASM_FIRST_EDITION);
     test("field: and the bytes that it does not use as 0", edited.held.bytes[CASM_FIRST_BYTES] == 0 && edited.held.bytes[46] == 0);
 }
 
@@ -323,9 +344,15 @@ static void test_rows(void) {
     for (int i = 0; i < CASM_MAX_RECORDS; i++)
         rows[i] = with_cntt((unsigned char)i, 0x8A, (unsigned char)(CASM_MAX_RECORDS - i));
     casm_length length = casm_write_rows(text, CASM_MAX_TEXT, rows, CASM_MAX_RECORDS, out, sizeof out);
-    test("write_rows: the largest group", length.number == CASM_ACCEPTED && length.length == CASM_MAX_GROUP_SIZE);
-    casm_count count = casm_read_rows(out, sizeof out, 0, back, CASM_MAX_RECORDS);
+    test("write_rows: the largest group of the first edition", length.number == CASM_ACCEPTED && length.length == 16 + CASM_MAX_TEXT + CASM_MAX_RECORDS * 45);
+    casm_count count = casm_read_rows(out, length.length, 0, back, CASM_MAX_RECORDS);
     test("read_rows: what was written", count.number == CASM_ACCEPTED && count.count == CASM_MAX_RECORDS && memcmp(back, rows, sizeof rows) == 0);
+    for (int i = 0; i < CASM_MAX_RECORDS; i++)
+        rows[i] = second_record((unsigned char)i);
+    length = casm_write_rows(text, CASM_MAX_TEXT, rows, CASM_MAX_RECORDS, out, sizeof out);
+    test("write_rows: the largest group", length.number == CASM_ACCEPTED && length.length == CASM_MAX_GROUP_SIZE);
+    count = casm_read_rows(out, sizeof out, 0, back, CASM_MAX_RECORDS);
+    test("read_rows: what was written, in the second edition", count.count == CASM_MAX_RECORDS && memcmp(back, rows, sizeof rows) == 0);
     count = casm_read_rows(out, sizeof out, 0, back, CASM_MAX_RECORDS - 1);
     test("read_rows: a row too little room", count.number == CASM_NO_ROOM && count.count == 0);
     length = casm_write_rows(bytes("Main A"), 6, 0, 0, out, sizeof out);
@@ -380,7 +407,224 @@ static void test_large_numbers(void) {
     test("large: a count", casm_write((const unsigned char *)"Main A", 6, 0, 0, large, out, sizeof out).number == CASM_BAD_NUMBER);
 }
 
+/* ---- the second edition: document 02, section 4 */
+
+static void test_second_reading(void) {
+    casm_count groups = casm_body(newer, NEWER_SIZE);
+    test("second: a body by hand", groups.number == CASM_ACCEPTED && groups.place == 0 && groups.count == 2);
+    casm_bounds bounds = casm_group(newer, NEWER_SIZE, 0);
+    test("second: a group's edition", bounds.number == CASM_ACCEPTED && bounds.edition == CASM_SECOND_EDITION && bounds.size == NEWER_GROUP);
+    test("second: its records, and no Cntts behind them", bounds.records_at == M_SIZE && bounds.records == 2 && bounds.cntts_at == NEWER_GROUP && bounds.cntts == 0);
+    bounds = casm_group(newer, NEWER_SIZE, 1);
+    test("second: a group without records has edition 0", bounds.number == CASM_ACCEPTED && bounds.at == NEWER_GROUP && bounds.records == 0 && bounds.edition == 0);
+    bounds = casm_group(newer, NEWER_SIZE - 1, 0);
+    test("second: a body refused has edition 0", bounds.number == CASM_CUT_OFF && bounds.place == NEWER_GROUP && bounds.edition == 0);
+    casm_position position = casm_channel(newer, NEWER_SIZE, 0, 7);
+    test("second: a channel's record", position.number == CASM_ACCEPTED && position.record == 1 && position.at == M_SIZE + SECOND_SIZE + 8);
+    casm_span voice = casm_voice(newer, NEWER_SIZE, 0, 7);
+    test("second: a voice", voice.start == M_SIZE + SECOND_SIZE + 9 && voice.length == 7 && memcmp(newer + voice.start, "Strings", 7) == 0);
+    casm_players players = casm_plays(newer, NEWER_SIZE, bytes("Main A"), 6, 11, 33);
+    test("second: who plays", players.count == 2 && players.channels[0] == 3 && players.channels[1] == 7);
+    test("second: a part without records", casm_plays(newer, NEWER_SIZE, bytes("Main B"), 6, 11, 33).number == CASM_ACCEPTED);
+    test("second: which group has it", casm_part(newer, NEWER_SIZE, bytes("Main B"), 6).group == 1);
+}
+
+/* The body by hand with one byte changed: whether it is refused with this number at this place, or accepted with its two groups. */
+static int read_changed(unsigned long at, unsigned char value, unsigned char number, unsigned long place) {
+    unsigned char changed[NEWER_SIZE];
+    memcpy(changed, newer, NEWER_SIZE);
+    changed[at] = value;
+    casm_count groups = casm_body(changed, NEWER_SIZE);
+    return groups.number == number && groups.place == place && groups.count == (number == CASM_ACCEPTED ? 2 : 0);
+}
+
+static void test_second_refusals(void) {
+    const unsigned long later = M_SIZE + SECOND_SIZE, record_at = later + 8;
+    test("second: a Ctab beside a Ctb2", read_changed(later + 2, 'a', CASM_BAD_TAG, later));
+    test("second: a Cntt beside a Ctb2", read_changed(later + 1, 'n', CASM_BAD_TAG, later));
+    test("second: a Ctb2 not of 47", read_changed(later + 7, 46, CASM_BAD_SIZE, later));
+    test("second: a Ctb2 past its group", read_changed(later + 7, 48, CASM_CUT_OFF, later));
+    test("second: a channel again", read_changed(record_at, 3, CASM_CHANNEL_AGAIN, later));
+    test("second: a bound of the middle notes", read_changed(record_at + 20, 128, CASM_OUT_OF_RANGE, record_at + 20));
+    test("second: a rule", read_changed(record_at + 28, 3, CASM_OUT_OF_RANGE, record_at + 28));
+    test("second: a table", read_changed(record_at + 23, 11, CASM_OUT_OF_RANGE, record_at + 23));
+    test("second: a table that rule 2 does not allow", read_changed(record_at + 35, 3, CASM_OUT_OF_RANGE, record_at + 35));
+    test("second: nor with bit 7", read_changed(record_at + 35, 0x83, CASM_OUT_OF_RANGE, record_at + 35));
+    test("second: one that it allows", read_changed(record_at + 35, 0x82, CASM_ACCEPTED, 0));
+    test("second: the bytes behind may be anything", read_changed(record_at + 40, 255, CASM_ACCEPTED, 0) && read_changed(record_at + 46, 0, CASM_ACCEPTED, 0));
+}
+
+/* Groups one behind another; how long they are. */
+static unsigned long joined(unsigned char *to, const unsigned char *one, unsigned long one_size, const unsigned char *other, unsigned long other_size) {
+    memcpy(to, one, one_size);
+    memcpy(to + one_size, other, other_size);
+    return one_size + other_size;
+}
+
+static void test_both_editions(void) {
+    const unsigned char *empty = newer + NEWER_GROUP;
+    unsigned char both[BODY_SIZE + NEWER_SIZE];
+    unsigned long list[10] = {9, 9, 9, 9, 9, 9, 9, 9, 9, 9};
+    unsigned long size = joined(both, body, BODY_SIZE, newer, NEWER_SIZE);
+    casm_count groups = casm_body(both, size);
+    test("both: a later group of the second, before its names", groups.number == CASM_OTHER_EDITION && groups.place == BODY_SIZE && groups.count == 0);
+    test("both: every call that reads a body", casm_part(both, size, bytes("Main A"), 6).number == CASM_OTHER_EDITION);
+    casm_count entries = casm_salvage(both, size, list, 10);
+    test("both: the list shows both", entries.number == CASM_ACCEPTED && entries.count == 3 && list[2] == 0 && list[5] == 0 && list[8] == 0 && list[9] == 9);
+    test("both: each by itself", list[3] == BODY_SIZE && list[4] == NEWER_GROUP && list[6] == BODY_SIZE + NEWER_GROUP && list[7] == M_SIZE);
+    groups = casm_body(both, joined(both, newer, NEWER_SIZE, body, BODY_SIZE));
+    test("both: a later group of the first", groups.number == CASM_OTHER_EDITION && groups.place == NEWER_SIZE);
+    both[NEWER_SIZE + M_SIZE + 8 + 26] = 1;
+    groups = casm_body(both, NEWER_SIZE + BODY_SIZE);
+    test("both: after its contents", groups.number == CASM_OUT_OF_RANGE && groups.place == NEWER_SIZE + M_SIZE + 8 + 26);
+    groups = casm_body(both, joined(both, empty, M_SIZE, newer, NEWER_GROUP));
+    test("both: a group without records before the second", groups.number == CASM_ACCEPTED && groups.count == 2);
+    groups = casm_body(both, joined(both, empty, M_SIZE, body, BODY_SIZE));
+    test("both: and before the first", groups.number == CASM_ACCEPTED && groups.count == 2);
+}
+
+static void test_second_rows(void) {
+    unsigned char out[CASM_MAX_GROUP_SIZE];
+    casm_row rows[3], wanted[2];
+    memset(rows, 0xDD, sizeof rows);
+    wanted[0] = second_record(3), wanted[1] = second_record(7);
+    casm_count count = casm_read_rows(newer, NEWER_SIZE, 0, rows, 3);
+    test("second rows: read", count.number == CASM_ACCEPTED && count.count == 2 && memcmp(rows, wanted, sizeof wanted) == 0);
+    test("second rows: later bytes are kept", rows[2].edition == 0xDD && rows[2].position == 0xDD);
+    memset(out, 0xEE, sizeof out);
+    casm_length length = casm_write_rows(bytes("Main A"), 6, rows, 2, out, sizeof out);
+    test("second rows: written", length.number == CASM_ACCEPTED && length.length == NEWER_GROUP && memcmp(out, newer, NEWER_GROUP) == 0 && out[NEWER_GROUP] == 0xEE);
+    rows[0].has_cntt = rows[0].cntt = rows[0].position = 99;
+    length = casm_write_rows(bytes("Main A"), 6, rows, 2, out, sizeof out);
+    test("second rows: a Cntt is not looked at", length.number == CASM_ACCEPTED && memcmp(out, newer, NEWER_GROUP) == 0);
+    test("second rows: a byte too little room", casm_write_rows(bytes("Main A"), 6, rows, 2, out, NEWER_GROUP - 1).number == CASM_NO_ROOM);
+    rows[1].bytes[35] = 0x0A;
+    length = casm_write_rows(bytes("Main A"), 6, rows, 2, out, sizeof out);
+    test("second rows: a byte out of range", length.number == CASM_OUT_OF_RANGE && length.place == 47 + 35 && length.length == 0);
+    rows[1] = second_record(3);
+    length = casm_write_rows(bytes("Main A"), 6, rows, 2, out, sizeof out);
+    test("second rows: a channel again", length.number == CASM_CHANNEL_AGAIN && length.place == 47);
+}
+
+static void test_mixed_rows(void) {
+    unsigned char out[CASM_MAX_GROUP_SIZE], before[CASM_MAX_GROUP_SIZE];
+    casm_row rows[3];
+    memset(out, 0xEE, sizeof out);
+    memcpy(before, out, sizeof out);
+    rows[0] = second_record(3), rows[1] = second_record(7), rows[2] = record(3);
+    rows[2].bytes[24] = 200;
+    casm_length length = casm_write_rows(bytes("Main A"), 6, rows, 3, out, 0);
+    test("mixed rows: the first among the second", length.number == CASM_OTHER_EDITION && length.place == 2 * 47 && length.length == 0);
+    rows[0] = record(3), rows[1] = second_record(16);
+    length = casm_write_rows(bytes("Main A"), 6, rows, 3, out, sizeof out);
+    test("mixed rows: the second among the first", length.number == CASM_OTHER_EDITION && length.place == 27);
+    rows[0].bytes[24] = 200;
+    length = casm_write_rows(bytes("Main A"), 6, rows, 3, out, sizeof out);
+    test("mixed rows: an earlier record's byte first", length.number == CASM_OUT_OF_RANGE && length.place == 24);
+    test("mixed rows: refused, the buffer is as it was", memcmp(out, before, sizeof out) == 0);
+    rows[0] = record(3), rows[1] = record(7);
+    rows[1].edition = 7;
+    length = casm_write_rows(bytes("Main A"), 6, rows, 2, out, sizeof out);
+    test("mixed rows: edition 7 is the first", length.number == CASM_ACCEPTED && length.length == M_SIZE + 2 * 35 && memcmp(out + M_SIZE + 35, "Ctab", 4) == 0);
+    rows[1] = second_record(7);
+    test("mixed rows: past the count not looked at", casm_write_rows(bytes("Main A"), 6, rows, 1, out, sizeof out).number == CASM_ACCEPTED);
+}
+
+static void test_second_edit(void) {
+    unsigned char changed[NEWER_SIZE], older[BODY_SIZE];
+    casm_row row = second_record(7), unlike = record(7);
+    memcpy(changed, newer, NEWER_SIZE);
+    memcpy(older, body, BODY_SIZE);
+    unlike.bytes[24] = 200;
+    casm_answer answer = casm_edit(changed, NEWER_SIZE, 0, 7, unlike);
+    test("second edit: a row of the first, before its bytes", answer.number == CASM_OTHER_EDITION && answer.place == 0);
+    test("second edit: another source channel before that", casm_edit(changed, NEWER_SIZE, 0, 3, unlike).number == CASM_BAD_NUMBER);
+    row.bytes[37] = 128;
+    answer = casm_edit(changed, NEWER_SIZE, 0, 7, row);
+    test("second edit: a byte out of range", answer.number == CASM_OUT_OF_RANGE && answer.place == 37);
+    test("second edit: refused, the body is as it was", memcmp(changed, newer, NEWER_SIZE) == 0);
+    row.bytes[37] = 1, row.bytes[46] = 1;
+    answer = casm_edit(changed, NEWER_SIZE, 0, 7, row);
+    test("second edit: accepted", answer.number == CASM_ACCEPTED && memcmp(changed + M_SIZE + SECOND_SIZE + 8, row.bytes, 47) == 0);
+    memcpy(changed + M_SIZE + SECOND_SIZE + 8, newer + M_SIZE + SECOND_SIZE + 8, 47);
+    test("second edit: and no other byte changed", memcmp(changed, newer, NEWER_SIZE) == 0);
+    answer = casm_edit(older, BODY_SIZE, 0, 7, row);
+    test("second edit: a row of the second in the first", answer.number == CASM_OTHER_EDITION && answer.place == 0 && memcmp(older, body, BODY_SIZE) == 0);
+    unlike = record(7);
+    unlike.edition = 7;
+    test("second edit: edition 7 is the first", casm_edit(older, BODY_SIZE, 0, 7, unlike).number == CASM_ACCEPTED);
+}
+
+static void test_second_field(void) {
+    casm_row row = second_record(3);
+    casm_edited edited = casm_field(row, 26, 100);
+    test("second field: index 26", edited.number == CASM_ACCEPTED && edited.place == 0 && edited.held.bytes[26] == 100);
+    edited.held.bytes[26] = row.bytes[26];
+    test("second field: all others kept", memcmp(&edited.held, &row, sizeof row) == 0);
+    edited = casm_field(row, 46, 0);
+    test("second field: index 46", edited.number == CASM_ACCEPTED && edited.held.bytes[46] == 0 && edited.held.edition == CASM_SECOND_EDITION);
+    edited = casm_field(row, 47, 0);
+    test("second field: no such byte", edited.number == CASM_BAD_NUMBER && edited.place == 0 && memcmp(&edited.held, &row, sizeof row) == 0);
+    edited = casm_field(row, 35, 3);
+    test("second field: a table that rule 2 does not allow", edited.number == CASM_OUT_OF_RANGE && edited.place == 35);
+    test("second field: with bit 7", casm_field(row, 35, 0x82).number == CASM_ACCEPTED && casm_field(row, 35, 0x83).number == CASM_OUT_OF_RANGE);
+    edited = casm_field(casm_field(row, 23, 0x8A).held, 22, 2);
+    test("second field: rule 2 over a table that it does not allow", edited.number == CASM_ACCEPTED && edited.held.bytes[22] == 2);
+    casm_note note = casm_place(edited.held, 0, 60);
+    test("second field: which placing then refuses", note.number == CASM_OUT_OF_RANGE && note.place == 23 && note.note == 0);
+    row.bytes[34] = 7;
+    test("second field: a rule over 2 counts as 0", casm_field(row, 35, 0x0A).number == CASM_ACCEPTED);
+    row.has_cntt = row.cntt = row.position = 9;
+    edited = casm_field(row, 18, 1);
+    test("second field: a Cntt comes back as 0", edited.held.has_cntt == 0 && edited.held.cntt == 0 && edited.held.position == 0);
+}
+
+static void test_second_place(void) {
+    casm_row row = second_record(3);
+    casm_note note = casm_place(row, 5, 40);
+    test("second place: by the low set", note.number == CASM_ACCEPTED && note.place == 0 && note.note == 45);
+    test("second place: above its high key, within its limits", casm_place(row, 6, 40).note == 46);
+    test("second place: the last of the low notes", casm_place(row, 1, 47).note == 48);
+    test("second place: the first of the middle notes", casm_place(row, 5, 48).note == 48);
+    test("second place: the last of them", casm_place(row, 5, 72).note == 72);
+    note = casm_place(row, 0, 73);
+    test("second place: rule 2", note.number == CASM_ROOT_FIXED && note.place == 0 && note.note == 0);
+    row.bytes[35] = 0x80;
+    test("second place: rule 2 and bypass", casm_place(row, 0, 73).number == CASM_ROOT_FIXED);
+    row.bytes[34] = 0;
+    test("second place: by the high set", casm_place(row, 0, 73).note == 73);
+    row.bytes[29] = 1;
+    test("second place: root fixed", casm_place(row, 0, 60).number == CASM_ROOT_FIXED);
+    row.bytes[20] = 72, row.bytes[21] = 48;
+    test("second place: crossed bounds, the low set first", casm_place(row, 5, 50).note == 55);
+    row.bytes[36] = 12;
+    note = casm_place(row, 5, 50);
+    test("second place: a byte of a set that is not used", note.number == CASM_OUT_OF_RANGE && note.place == 36);
+    test("second place: no such root, first of all", casm_place(row, 12, 50).number == CASM_BAD_NUMBER);
+    row = record(0);
+    row.edition = 7;
+    test("second place: edition 7 is the first", casm_place(row, 5, 60).note == 65);
+}
+
+/* 28 of the largest groups are a body; a 29th makes it too long. */
+static void test_second_limit(void) {
+    static unsigned char large[29 * CASM_MAX_GROUP_SIZE];
+    unsigned char text[CASM_MAX_TEXT];
+    casm_row rows[CASM_MAX_RECORDS];
+    for (int i = 0; i < CASM_MAX_RECORDS; i++)
+        rows[i] = second_record((unsigned char)i);
+    for (int k = 0; k < 29; k++) {
+        for (int i = 0; i < CASM_MAX_TEXT; i++)
+            text[i] = (unsigned char)(i % 16 == 15 ? ',' : i % 16 == 0 ? 'A' + i / 16 : 'A' + k);
+        casm_write_rows(text, CASM_MAX_TEXT, rows, CASM_MAX_RECORDS, large + k * CASM_MAX_GROUP_SIZE, CASM_MAX_GROUP_SIZE);
+    }
+    casm_count groups = casm_body(large, 28 * CASM_MAX_GROUP_SIZE);
+    test("second limit: 28 of the largest groups", groups.number == CASM_ACCEPTED && groups.count == 28);
+    test("second limit: one more", casm_body(large, sizeof large).number == CASM_OVER_LIMIT);
+}
+
 int main(void) {
+    test("the version", CASM_VERSION == 3000);
     prepare();
     test_find();
     test_body();
@@ -400,6 +644,15 @@ int main(void) {
     test_rows();
     test_limits();
     test_large_numbers();
+    test_second_reading();
+    test_second_refusals();
+    test_both_editions();
+    test_second_rows();
+    test_mixed_rows();
+    test_second_edit();
+    test_second_field();
+    test_second_place();
+    test_second_limit();
     printf("%d tests of the header, %d failed\n", tests, failed);
     return failed != 0;
 }

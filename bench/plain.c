@@ -1,11 +1,23 @@
-/* Plain C for the layout of document 01, written to be fast: the yardstick of bench.c. It follows the documents and not the proved code. */
+/* Plain C for the layout of documents 01 and 02, written to be fast: the yardstick of bench.c. It follows the documents and not the proved code. */
 #include "plain.h"
 
-enum { BODY_LIMIT = 32768, FILE_LIMIT = 1048576, GROUPS = 32 };
+enum { BODY_LIMIT = 32768, FILE_LIMIT = 1048576, GROUPS = 32, FIRST = 1, SECOND = 2 };
 
+/* One table of ranges for each edition. */
 static const uint8_t low[27] = {[9] = 8};
 static const uint8_t high[27] = {15,  255, 255, 255, 255, 255, 255, 255, 255, 15, 1, 15, 255, 7,
                                  255, 255, 255, 255, 11,  33,  1,   5,   11,  127, 127, 5, 0};
+
+/* .. of which the second's ends before the seven bytes that are kept as they are. A set's table has a rule besides. */
+enum { JUDGED = 40, SETS = 22, SET = 6 };
+static const uint8_t low_second[JUDGED] = {[9] = 8};
+static const uint8_t high_second[JUDGED] = {15,  255, 255, 255, 255, 255, 255, 255, 255, 15, 1, 15, 255, 7,  255, 255, 255, 255, 11, 33,
+                                            127, 127, 2,   138, 11,  127, 127, 5,   2,   138, 11, 127, 127, 5, 2, 138, 11, 127, 127, 5};
+
+/* The bytes of a record's chunk behind its header. */
+static inline size_t size_of(size_t edition) { return edition == SECOND ? 47 : 27; }
+/* The edition of a row: every number but 2 is the first. */
+static inline size_t edition_of(uint8_t number) { return number == SECOND ? SECOND : FIRST; }
 
 static inline uint32_t word(const uint8_t *s) { return (uint32_t)s[0] << 24 | (uint32_t)s[1] << 16 | (uint32_t)s[2] << 8 | s[3]; }
 static inline uint32_t tag(const char *t) { return word((const uint8_t *)t); }
@@ -34,7 +46,7 @@ casm_section plain_find(const uint8_t *file, size_t size)
 
 /* ---- one group: p has n bytes */
 
-struct group { size_t size, text, length, ctabs, records, cntts, seconds; };
+struct group { size_t size, edition, length, ctabs, records, cntts, seconds; };
 struct fault { uint8_t number; size_t place; };
 static const struct fault fine = {0, 0};
 #define FAULT(n, p) ((struct fault){(n), (p)})
@@ -77,7 +89,49 @@ static size_t first_out(const uint8_t *b, size_t n)
     return n;
 }
 
+/* A set's table is 00-0A, or 00-02 under rule 2, each with or without bit 7. */
+static inline _Bool table_out(uint8_t rule, uint8_t table) { return (table & 127) > (rule == 2 ? 2 : 10); }
+
+/* Most records are sound: so all bytes are judged together, without a branch, and one that is out is looked for only where there is one. */
+static inline _Bool sound_second(const uint8_t *b)
+{
+    uint8_t out = 0;
+    for (size_t k = 0; k < JUDGED; k++) out |= (uint8_t)((b[k] < low_second[k]) | (b[k] > high_second[k]));
+    for (size_t t = SETS + 1; t < JUDGED; t += SET) out |= (uint8_t)table_out(b[t - 1], b[t]);
+    return !out;
+}
+
+/* The first byte out of range of a record of the second edition. */
+static inline size_t first_out_second(const uint8_t *b)
+{
+    size_t k = 0;
+    if (sound_second(b)) return 47;
+    while (k < JUDGED && b[k] >= low_second[k] && b[k] <= high_second[k]) k++;
+    for (size_t t = SETS + 1; t < k; t += SET)
+        if (table_out(b[t - 1], b[t])) return t;
+    return k;
+}
+
 static _Bool cntt_value(uint8_t v) { return v == 4 || (v >= 6 && v <= 10) || (v >= 0x80 && v <= 0x8A); }
+
+/* The records of the second edition, from the first of them to the group's end: nothing else stands beside them. */
+static struct fault read_seconds(const uint8_t *p, size_t n, size_t at, struct group *g)
+{
+    uint32_t met = 0;
+    size_t records = 0;
+    for (; at != n; at += 55, records++) {
+        if (n - at < 8) return FAULT(2, at);
+        if (word(p + at) != tag("Ctb2")) return FAULT(6, at);
+        if (word(p + at + 4) > n - at - 8) return FAULT(2, at);
+        if (word(p + at + 4) != 47) return FAULT(7, at);
+        size_t k = first_out_second(p + at + 8);
+        if (k < 47) return FAULT(9, at + 8 + k);
+        if (met >> p[at + 8] & 1) return FAULT(10, at);
+        met |= 1u << p[at + 8];
+    }
+    g->size = n, g->cntts = n, g->records = records, g->seconds = 0, g->edition = SECOND;
+    return fine;
+}
 
 static struct fault read_group(const uint8_t *p, size_t n, struct group *g)
 {
@@ -95,7 +149,8 @@ static struct fault read_group(const uint8_t *p, size_t n, struct group *g)
     size_t at = 16 + text;
     uint8_t home[16] = {0}, seen[16] = {0};
     size_t records = 0, seconds = 0;
-    g->ctabs = at;
+    g->length = text, g->ctabs = at;
+    if (n - at >= 8 && word(p + at) == tag("Ctb2")) return read_seconds(p, n, at, g);
     for (; at != n; at += 35) {
         if (n - at >= 8 && word(p + at) == tag("Cntt")) break;
         if (n - at < 8) return FAULT(2, at);
@@ -120,7 +175,7 @@ static struct fault read_group(const uint8_t *p, size_t n, struct group *g)
         if (home[channel] == 0) return FAULT(11, at);
         seen[channel] = 1, seconds++;
     }
-    g->size = n, g->text = 16, g->length = text, g->records = records, g->seconds = seconds;
+    g->size = n, g->records = records, g->seconds = seconds, g->edition = records ? FIRST : 0;
     return fine;
 }
 
@@ -155,7 +210,7 @@ static _Bool named_before(const uint8_t *s, const struct group *groups, const si
 static struct fault read_groups(const uint8_t *s, size_t size, struct group *groups, size_t *places, size_t *count)
 {
     uint64_t met[256] = {0};
-    size_t k = 0;
+    size_t k = 0, editions = 0;
     if (size > BODY_LIMIT) return FAULT(3, 0);
     for (size_t at = 0; at != size; k++) {
         if (k == GROUPS) {
@@ -166,6 +221,8 @@ static struct fault read_groups(const uint8_t *s, size_t size, struct group *gro
         }
         struct fault f = read_group(s + at, size - at, &groups[k]);
         if (f.number) return f.place += at, f;
+        /* editions are bits of one number: 3 where there are both */
+        if ((editions |= groups[k].edition) == 3) return FAULT(21, at);
         if (named_before(s, groups, places, k, s + at + 16, groups[k].length, met)) return FAULT(13, at);
         places[k] = at;
         at += groups[k].size;
@@ -233,12 +290,32 @@ casm_players plain_plays(const uint8_t *body, size_t size, const uint8_t *part, 
     while (k < count && !has_name(body + places[k] + 16, groups[k].length, part, length)) k++;
     if (k == count) return r.number = 15, r;
     const uint8_t *b = body + places[k] + groups[k].ctabs + 8;
-    for (size_t i = 0; i < groups[k].records; i++, b += 35) {
+    size_t step = 8 + size_of(groups[k].edition);
+    for (size_t i = 0; i < groups[k].records; i++, b += step) {
         uint32_t roots = (uint32_t)b[11] << 8 | b[12];
         uint64_t chords = (uint64_t)b[13] << 32 | word(b + 14);
         if (roots >> root & 1 && chords >> kind & 1) r.channels[r.count++] = b[0];
     }
     return r;
+}
+
+/* A note by a set, as bytes 20-25 of the first edition are: rule 0 or 1, table, high key, limits, retrigger. Each edition has its own copy, for speed. */
+static inline __attribute__((always_inline)) casm_note placed(const uint8_t *set, uint8_t table, uint8_t source, uint8_t root, uint8_t note)
+{
+    casm_note r = {0};
+    int value = note, least = set[3], most = set[4];
+    if (table != 0x00 && table != 0x80) {
+        if (set[0]) return r.number = 17, r;
+        value += root - source - (root > set[2] ? 12 : 0);
+    }
+    if (value < least) value += (least - value + 11) / 12 * 12;
+    else if (value > most) value -= (value - most + 11) / 12 * 12;
+    if (value < least || value > most) {
+        int up = ((value - least) % 12 + 12) % 12;
+        value = least + up;
+        if (value >= 12 && (value > 127 || up >= 6)) value -= 12;
+    }
+    return r.note = (uint8_t)value, r;
 }
 
 casm_note plain_place(casm_row row, uint8_t root, uint8_t note)
@@ -247,23 +324,17 @@ casm_note plain_place(casm_row row, uint8_t root, uint8_t note)
     casm_note r = {0};
     const uint8_t *b = row.bytes;
     if (root > 11 || note > 127) return r.number = 16, r;
+    if (row.edition == SECOND) {
+        size_t k = first_out_second(b);
+        if (k < 47) return r.number = 9, r.place = k, r;
+        const uint8_t *set = b + SETS + (note < b[20] ? 0 : note > b[21] ? 2 * SET : SET);
+        if (set[0] == 2) return r.number = 17, r;
+        return placed(set, set[1], b[18], root, note);
+    }
     size_t k = first_out(b, 26);
     if (k > 21 && row.has_cntt && !cntt_value(row.cntt)) k = 21;
     if (k < 26) return r.number = 9, r.place = k, r;
-    uint8_t table = row.has_cntt ? row.cntt : becomes[b[21]];
-    int value = note;
-    if (table != 0x00 && table != 0x80) {
-        if (b[20]) return r.number = 17, r;
-        value += root - b[18] - (root > b[22] ? 12 : 0);
-    }
-    if (value < b[23]) value += (b[23] - value + 11) / 12 * 12;
-    else if (value > b[24]) value -= (value - b[24] + 11) / 12 * 12;
-    if (value < b[23] || value > b[24]) {
-        int up = ((value - b[23]) % 12 + 12) % 12;
-        value = b[23] + up;
-        if (value >= 12 && (value > 127 || up >= 6)) value -= 12;
-    }
-    return r.note = (uint8_t)value, r;
+    return placed(b + 20, row.has_cntt ? row.cntt : becomes[b[21]], b[18], root, note);
 }
 
 /* ---- writing and editing */
@@ -275,43 +346,65 @@ static uint8_t *put_head(uint8_t *out, const char *name, size_t size)
     return out + 8;
 }
 
+/* Cntts by their positions: 0 is none, and `reach` is above how many there are where a position is wrong. */
+struct second_tables { const uint8_t *at[17]; size_t count, reach; };
+
+static void lay_down(struct second_tables *to, const uint8_t *row)
+{
+    uint8_t has_cntt = row[48], position = row[50];
+    if (!has_cntt) {
+        if (position) to->reach = 17;
+    } else if (position == 0 || position > 16 || to->at[position]) {
+        to->reach = 17, to->count++;
+    } else {
+        to->at[position] = row, to->count++;
+        if (to->reach < position) to->reach = position;
+    }
+}
+
+/* The first byte out of range of a row's record. */
+static size_t row_out(const uint8_t *row, size_t edition)
+{
+    if (edition == SECOND) return first_out_second(row + 1);
+    size_t k = first_out(row + 1, 26);
+    if (k > 21 && row[48] && !cntt_value(row[49])) k = 21;
+    return k < 26 ? k : 47;
+}
+
+static uint8_t *put_record(uint8_t *out, const uint8_t *row, size_t edition)
+{
+    if (edition == SECOND) return out = put_head(out, "Ctb2", 47), memcpy(out, row + 1, 47), out + 47;
+    out = put_head(out, "Ctab", 27), memcpy(out, row + 1, 26), out[26] = 0;
+    return out + 27;
+}
+
 casm_length plain_write(const uint8_t *text, size_t length, const uint8_t *table, size_t bytes, size_t count, uint8_t *out, size_t room)
 {
     casm_length r = {0};
-    uint8_t seen[16] = {0};
-    const uint8_t *by_position[17] = {0};
-    size_t size = 16 + length, seconds = 0, reach = 0;
+    uint32_t seen = 0;
+    struct second_tables cntts = {{0}, 0, 0};
     if (count > bytes / CASM_ROW_SIZE) return r.number = 16, r;
     if (!sound_text(text, length)) return r.number = 8, r;
+    size_t edition = count ? edition_of(table[0]) : FIRST;
     for (size_t i = 0; i < count; i++) {
-        const uint8_t *row = table + CASM_ROW_SIZE * i, *b = row + 1;
-        uint8_t has_cntt = row[48], position = row[50];
-        size_t k = first_out(b, 26);
-        if (k > 21 && has_cntt && !cntt_value(row[49])) k = 21;
-        if (k < 26) return r.number = 9, r.place = 27 * i + k, r;
-        if (seen[b[0]]) return r.number = 10, r.place = 27 * i, r;
-        seen[b[0]] = 1, size += has_cntt ? 45 : 35;
-        if (!has_cntt) {
-            if (position) reach = 17;
-        } else if (position == 0 || position > 16 || by_position[position]) {
-            reach = 17, seconds++;
-        } else {
-            by_position[position] = row, seconds++;
-            if (reach < position) reach = position;
-        }
+        const uint8_t *row = table + CASM_ROW_SIZE * i;
+        if (edition_of(row[0]) != edition) return r.number = 21, r.place = size_of(edition) * i, r;
+        size_t k = row_out(row, edition);
+        if (k < 47) return r.number = 9, r.place = size_of(edition) * i + k, r;
+        if (seen >> row[1] & 1) return r.number = 10, r.place = size_of(edition) * i, r;
+        seen |= 1u << row[1];
+        if (edition == FIRST) lay_down(&cntts, row);
     }
-    if (reach > seconds) return r.number = 18, r;
+    if (cntts.reach > cntts.count) return r.number = 18, r;
+    size_t size = 16 + length + (8 + size_of(edition)) * count + 10 * cntts.count;
     if (size > room) return r.number = 14, r;
     out = put_head(out, "CSEG", size - 8);
     out = put_head(out, "Sdec", length);
     memcpy(out, text, length), out += length;
-    for (size_t i = 0; i < count; i++, out += 27) {
-        out = put_head(out, "Ctab", 27);
-        memcpy(out, table + CASM_ROW_SIZE * i + 1, 26), out[26] = 0;
-    }
-    for (size_t k = 1; k <= seconds; k++, out += 2) {
+    for (size_t i = 0; i < count; i++) out = put_record(out, table + CASM_ROW_SIZE * i, edition);
+    for (size_t k = 1; k <= cntts.count; k++, out += 2) {
         out = put_head(out, "Cntt", 2);
-        out[0] = by_position[k][1], out[1] = by_position[k][49];
+        out[0] = cntts.at[k][1], out[1] = cntts.at[k][49];
     }
     return r.length = size, r;
 }
@@ -324,12 +417,16 @@ casm_answer plain_edit(uint8_t *body, size_t size, size_t group, uint8_t source,
     struct fault f = read_groups(body, size, groups, places, &count);
     if (f.number) return r.number = f.number, r.place = f.place, r;
     if (group >= count) return r.number = 16, r;
-    uint8_t *b = body + places[group] + groups[group].ctabs + 8, *end = b + 35 * groups[group].records;
-    while (b != end && *b != source) b += 35;
+    size_t edition = groups[group].edition;
+    size_t step = 8 + size_of(edition);
+    uint8_t *b = body + places[group] + groups[group].ctabs + 8, *end = b + step * groups[group].records;
+    while (b != end && *b != source) b += step;
     if (b == end) return r.number = 15, r;
     if (row.bytes[0] != source) return r.number = 16, r;
-    size_t k = first_out(row.bytes, 26);
-    if (k < 26) return r.number = 9, r.place = k, r;
-    memcpy(b, row.bytes, 26), b[26] = 0;
+    if (edition_of(row.edition) != edition) return r.number = 21, r;
+    size_t held = edition == SECOND ? 47 : 26, k = edition == SECOND ? first_out_second(row.bytes) : first_out(row.bytes, 26);
+    if (k < held) return r.number = 9, r.place = k, r;
+    memcpy(b, row.bytes, held);
+    if (edition == FIRST) b[26] = 0;
     return r;
 }

@@ -3,7 +3,8 @@
  * by no proof. It has no rule of its own: a line is taken apart, one call is made (for `group` two), and what came back is printed.
  *
  * Tokens are separated by one space. BYTES are `-`, or parts joined by `+`: pairs of hex digits, or such pairs, `*` and how often. REC is 52 hex digits, `:`,
- * and two more or `-`, the Cntt. Numbers are decimal and below 2^32. A line that breaks this is answered `bad`. Each verb has its tokens above it.
+ * two more or `-`, the Cntt, `:` and its position; or, of the second edition, 94 hex digits. Numbers are decimal and below 2^32. A line that breaks this is
+ * answered `bad`. Each verb has its tokens above it.
  *
  * Lent memory is exactly as long as the line says, and ends where a page begins that cannot be touched: a call that looks past the end stops the program.
  * Where nothing is lent the pointer is NULL.
@@ -113,13 +114,24 @@ static void print_bytes(const unsigned char *bytes, unsigned long length) {
     print_hex(bytes, length);
 }
 
-/* A record that came back: of the first edition, the bytes that it does not use 0, has_cntt 0 or 1, and cntt 0 where there is none. What is not so prints as no record. */
-static void print_record(casm_row row) {
-    int sound = row.edition == CASM_FIRST_EDITION;
+/* Whether a record that came back has an edition, and what that edition does not use is 0: in the first the other bytes, in the second a Cntt and its position. */
+static int unused_is_zero(casm_row row) {
+    if (row.edition == CASM_SECOND_EDITION)
+        return (row.has_cntt | row.cntt | row.position) == 0;
     for (unsigned long i = CASM_FIRST_BYTES; i < sizeof row.bytes; i++)
-        sound = sound && row.bytes[i] == 0;
-    print_bytes(row.bytes, CASM_FIRST_BYTES);
-    print(sound ? ":" : "?");
+        if (row.bytes[i] != 0)
+            return 0;
+    return row.edition == CASM_FIRST_EDITION;
+}
+
+/* A record that came back. Where it is not as casm.h says, it prints as no record: has_cntt is 0 or 1, and cntt 0 where there is none. */
+static void print_record(casm_row row) {
+    print_bytes(row.bytes, row.edition == CASM_SECOND_EDITION ? CASM_SECOND_BYTES : CASM_FIRST_BYTES);
+    if (!unused_is_zero(row))
+        print_char('?');
+    if (row.edition == CASM_SECOND_EDITION)
+        return;
+    print_char(':');
     if (row.has_cntt == 1)
         print_hex(&row.cntt, 1);
     else
@@ -264,17 +276,11 @@ static int bytes(Text *line, unsigned char *end, Lent *lent) {
     return 1;
 }
 
-/* Takes a REC. Where it has a Cntt, has_cntt is anything but 0; where it has none, cntt is not looked at. Neither are the edition and the bytes that it does not use. */
-static int record(Text *line, casm_row *row) {
-    const unsigned long digits = 2 * CASM_FIRST_BYTES;
-    Text token, cntt, place;
+/* The Cntt of a REC of the first edition, and its position. Where there is one, has_cntt is anything but 0; where there is none, cntt is not looked at. */
+static int second_table(Text rest, casm_row *row) {
+    Text cntt, place;
     unsigned long position;
-    if (!take(line, &token) || digits_of(token) != digits || length_of(token) == digits || token.at[digits] != ':')
-        return 0;
-    memset(row, OF_RECORD, sizeof *row);
-    put_pairs(token.at, row->bytes, CASM_FIRST_BYTES);
-    token.at += digits + 1;
-    if (!cut(&token, ':', &cntt) || !cut(&token, ':', &place) || !ended(&token) || !decimal(place, &position) || position > 255)
+    if (!cut(&rest, ':', &cntt) || !cut(&rest, ':', &place) || !ended(&rest) || !decimal(place, &position) || position > 255)
         return 0;
     row->position = (unsigned char)position;
     row->has_cntt = 0;
@@ -285,6 +291,26 @@ static int record(Text *line, casm_row *row) {
     put_pairs(cntt.at, &row->cntt, 1);
     row->has_cntt = row->cntt | 1;
     return 1;
+}
+
+/* Takes a REC. Its row keeps OF_RECORD where its edition does not look: so the number of the first edition, too, is one that is not 2. */
+static int record(Text *line, casm_row *row) {
+    const unsigned long first = 2 * CASM_FIRST_BYTES, second = 2 * CASM_SECOND_BYTES;
+    Text token;
+    if (!take(line, &token))
+        return 0;
+    memset(row, OF_RECORD, sizeof *row);
+    unsigned long digits = digits_of(token);
+    if (digits == second && length_of(token) == second) {
+        row->edition = CASM_SECOND_EDITION;
+        put_pairs(token.at, row->bytes, CASM_SECOND_BYTES);
+        return 1;
+    }
+    if (digits != first || length_of(token) == first || token.at[first] != ':')
+        return 0;
+    put_pairs(token.at, row->bytes, CASM_FIRST_BYTES);
+    token.at += first + 1;
+    return second_table(token, row);
 }
 
 /* -- The verbs: each takes its tokens, makes its call and prints the answer; 0 where the line is bad -- */
@@ -331,13 +357,13 @@ static int where(Text *line) {
     if (!bytes(line, body_end, &lent) || !number(line, &group) || !ended(line))
         return 0;
     casm_bounds bounds = casm_group(lent.at, lent.length, group);
-    const unsigned long fields[] = {bounds.at,         bounds.size,    bounds.text_at,  bounds.text_length,
-                                    bounds.records_at, bounds.records, bounds.cntts_at, bounds.cntts};
+    const unsigned long fields[] = {bounds.at,      bounds.size,     bounds.text_at, bounds.text_length, bounds.records_at,
+                                    bounds.records, bounds.cntts_at, bounds.cntts,   bounds.edition};
     unsigned long others = 0;
-    for (int i = 0; i < 8; i++)
+    for (int i = 0; i < 9; i++)
         others |= fields[i];
     if (told(bounds.number, bounds.place, others))
-        for (int i = 0; i < 8; i++)
+        for (int i = 0; i < 9; i++)
             print_number(fields[i]);
     return 1;
 }

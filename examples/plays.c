@@ -48,7 +48,12 @@ int main(int count, char **words) {
     casm_holder holder = casm_part(body, section.length, part, part_length);
     if (holder.number != CASM_ACCEPTED)
         return refused("the part", holder.number, holder.place);
-    printf("%s, group %lu: %lu play\n", words[2], holder.group, players.count);
+
+    /* Of a group without records no edition is known: it is 0. */
+    casm_bounds bounds = casm_group(body, section.length, holder.group);
+    if (bounds.number != CASM_ACCEPTED)
+        return refused("the group", bounds.number, bounds.place);
+    printf("%s, group %lu, edition %d: %lu of %lu play\n", words[2], holder.group, bounds.edition, players.count, bounds.records);
 
     /* The voice names stand in the body: they are shown from there, and not copied. */
     for (unsigned long i = 0; i < players.count; i++) {

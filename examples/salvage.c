@@ -8,11 +8,11 @@
 /* Room for the salvage list of any body, so that casm_salvage never refuses for want of it. */
 static unsigned long list[CASM_MAX_LIST];
 
-/* A sound piece read alone is a body of one group: its part names. */
+/* A sound piece read alone is a body of one group: its part names, and its edition, which may be another than that of its neighbours. */
 static void show_parts(const unsigned char *group, unsigned long size) {
     casm_bounds bounds = casm_group(group, size, 0);
     if (bounds.number == CASM_ACCEPTED)
-        printf(": %.*s, %lu channels", (int)bounds.text_length, (const char *)group + bounds.text_at, bounds.records);
+        printf(": %.*s, %lu channels, edition %d", (int)bounds.text_length, (const char *)group + bounds.text_at, bounds.records, bounds.edition);
 }
 
 int main(int count, char **words) {

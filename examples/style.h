@@ -31,10 +31,12 @@ static inline int read_file(const char *name, unsigned long *length) {
 static inline const char *in_words(unsigned char number) {
     static const char *const words[] = {
         "sound", "not a style file", "a chunk is cut off", "over its limit", "a section tag seen before", "no CASM section",
-        "a tag that may not stand there", "a Ctab not of 27 bytes or a Cntt not of 2", "a rule on the Sdec's text is broken",
-        "a byte out of its range", "a channel's second Ctab or Cntt", "a Cntt without its Ctab", "more than 32 groups",
+        "a tag that may not stand there", "a Ctab not of 27 bytes, a Ctb2 not of 47 or a Cntt not of 2", "a rule on the Sdec's text is broken",
+        "a byte out of its range", "a channel's second Ctab, Ctb2 or Cntt", "a Cntt without its Ctab", "more than 32 groups",
         "a part name seen in an earlier group", "too little room", "no such part or channel", "a number out of range",
-        "root fixed, and the table is not bypass", "the positions of the Cntts are wrong"};
+        "root fixed and the table is not bypass, or rule 2", "the positions of the Cntts are wrong"};
+    if (number == CASM_OTHER_EDITION)
+        return "of another edition";
     return number < sizeof words / sizeof *words ? words[number] : "unknown";
 }
 

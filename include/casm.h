@@ -5,15 +5,17 @@
  * and lent memory is as it was. One field is not 0 then: `held` of casm_field is the record as it was, because the editing screen goes on
  * showing it. A place is counted from the start of the bytes that were lent; in a record that is handed over it is the byte of the record.
  *
- *    1  not a style file                            10  a channel's second Ctab or Cntt
- *    2  a chunk is cut off                          11  a Cntt without its Ctab
- *    3  a file or a body over its limit             12  more than 32 groups
- *    4  a section tag seen before                   13  a part name seen in an earlier group
- *    5  no CASM section                             14  what is lent is too small for the answer
- *    6  a tag that may not stand there              15  no such part, or no such channel in the group
- *    7  a Ctab not of 27 bytes, a Cntt not of 2     16  a number out of range
- *    8  a rule on an Sdec's text is broken          17  root fixed, and the table is not bypass
- *    9  a byte out of its range                     18  the positions of the Cntts are wrong
+ *    1  not a style file                            11  a Cntt without its Ctab
+ *    2  a chunk is cut off                          12  more than 32 groups
+ *    3  a file or a body over its limit             13  a part name seen in an earlier group
+ *    4  a section tag seen before                   14  what is lent is too small for the answer
+ *    5  no CASM section                             15  no such part, or no such channel in the group
+ *    6  a tag that may not stand there              16  a number out of range
+ *    7  a Ctab not of 27 bytes, a Ctb2 not of 47,   17  root fixed, and the table is not bypass; or rule 2
+ *       or a Cntt not of 2                          18  the positions of the Cntts are wrong
+ *    8  a rule on an Sdec's text is broken          21  another edition: a group than the first with records, a record to
+ *    9  a byte out of its range                         be written than the first, or an edit's than the one in the body
+ *   10  a channel's second Ctab, Ctb2 or Cntt
  *
  * What a caller owes, since C checks none of it: a pointer and its length name memory that is there for the whole call, that nothing
  * else writes meanwhile and, where it is lent to be written (no const), that overlaps nothing else that is lent to the same call.
@@ -29,8 +31,15 @@
 
 /* The version of this header and of the archive that belongs to it. With the same major number nothing that stands here changes: no name,
  * no field, no size, no number, and no answer to any input. A minor number adds calls or constants. CASM_VERSION is both, to compare with.
- * 2.0: Cntts are read in any order, 18 is new, and a row has an edition and a position. casm_place always gives a note: `silent` is gone. */
-#define CASM_VERSION_MAJOR 2
+ * 2.0: Cntts are read in any order, 18 is new, and a row has an edition and a position. casm_place always gives a note: `silent` is gone.
+ * 3.0: The second edition (Ctb2) is read, written, edited, placed and salvaged, and 21 is new. To come over from 2.0, compile anew, and
+ *  - set the `edition` of each row that you make: 2.0 did not look at it, and now 2 says that all 47 bytes are used;
+ *  - look at the `edition` of each row and of each group that you get: bytes 20-46 mean something else in the second edition, which has no Cntts;
+ *  - walk from record to record by 8 + CASM_FIRST_SIZE or 8 + CASM_SECOND_SIZE bytes, as the group's edition says;
+ *  - lend casm_write CASM_MAX_GROUP_SIZE bytes, which are more than they were, if you counted on them being enough;
+ *  - expect 21 where a body, a row to write or a row to edit is of another edition than it must be.
+ * A body of the first edition is answered as before, and so is a row whose edition is not 2. */
+#define CASM_VERSION_MAJOR 3
 #define CASM_VERSION_MINOR 0
 #define CASM_VERSION (1000 * CASM_VERSION_MAJOR + CASM_VERSION_MINOR)
 
@@ -54,20 +63,25 @@
 #define CASM_BAD_NUMBER 16
 #define CASM_ROOT_FIXED 17
 #define CASM_BAD_POSITIONS 18
+#define CASM_OTHER_EDITION 21
 
 /* The limits, and what is enough for any answer. */
-#define CASM_MAX_FILE 1048576   /* bytes of a style file */
-#define CASM_MAX_BODY 32768     /* bytes of a CASM body */
-#define CASM_MAX_GROUPS 32      /* groups of a body */
-#define CASM_MAX_GROUP_SIZE 991 /* bytes of a group that casm_write writes: 16 for two headers, a text, and 45 for each record */
-#define CASM_MAX_RECORDS 16     /* records of a group */
-#define CASM_MAX_TEXT 255       /* bytes of an Sdec's text */
-#define CASM_MAX_NAME 16        /* bytes of a part name */
-#define CASM_MAX_LIST 24576     /* numbers of a salvage list, three an entry */
-#define CASM_MAX_STACK 4096     /* bytes of stack of a call */
-#define CASM_ROW_SIZE 51        /* bytes of a record in a flat table */
-#define CASM_FIRST_EDITION 1    /* the edition of a row, and .. */
-#define CASM_FIRST_BYTES 26     /* .. how many of its bytes that edition uses */
+#define CASM_MAX_FILE 1048576    /* bytes of a style file */
+#define CASM_MAX_BODY 32768      /* bytes of a CASM body */
+#define CASM_MAX_GROUPS 32       /* groups of a body */
+#define CASM_MAX_GROUP_SIZE 1151 /* bytes of a group that casm_write writes: 16 for two headers, a text, and 55 for each record (45 in the first edition) */
+#define CASM_MAX_RECORDS 16      /* records of a group */
+#define CASM_MAX_TEXT 255        /* bytes of an Sdec's text */
+#define CASM_MAX_NAME 16         /* bytes of a part name */
+#define CASM_MAX_LIST 24576      /* numbers of a salvage list, three an entry */
+#define CASM_MAX_STACK 4096      /* bytes of stack of a call */
+#define CASM_ROW_SIZE 51         /* bytes of a record in a flat table */
+#define CASM_FIRST_EDITION 1     /* the edition of a row or a group (Ctab), .. */
+#define CASM_FIRST_BYTES 26      /* .. how many of a row's bytes it uses, .. */
+#define CASM_FIRST_SIZE 27       /* .. and how many its Ctab has behind its tag and length: the end marker is one more */
+#define CASM_SECOND_EDITION 2    /* the other edition (Ctb2), .. */
+#define CASM_SECOND_BYTES 47     /* .. the same of it .. */
+#define CASM_SECOND_SIZE 47      /* .. and of its Ctb2 */
 
 #ifdef __cplusplus
 extern "C" {
@@ -109,7 +123,8 @@ typedef struct {
 } casm_holder;
 
 /* Where a group stands in its body: the place of its tag and its size with the header; the place and length of its Sdec's text;
- * the place of its first Ctab and how many it has; the place of its first Cntt and how many it has. */
+ * the place of its first Ctab or Ctb2 and how many it has; the place of its first Cntt, behind the last of these, and how many it has;
+ * and its edition, CASM_FIRST_EDITION or CASM_SECOND_EDITION, or 0 for a group without records. */
 typedef struct {
     unsigned char number;
     unsigned long place;
@@ -121,10 +136,11 @@ typedef struct {
     unsigned long records;
     unsigned long cntts_at;
     unsigned long cntts;
+    unsigned char edition;
 } casm_bounds;
 
-/* The record of a source channel in a group: its number among the group's records, counted from 0 in Ctab order, and the place of its byte 0
- * in the body. The record's bytes 0-25 stand there, and behind them the end marker. */
+/* The record of a source channel in a group: its number among the group's records, counted from 0 as they stand, and the place of its byte 0
+ * in the body. The record's bytes 0-25 stand there, and behind them the end marker; in the second edition its bytes 0-46. */
 typedef struct {
     unsigned char number;
     unsigned long place;
@@ -140,7 +156,7 @@ typedef struct {
     unsigned long length;
 } casm_span;
 
-/* The source channels that play, in Ctab order; places past the count are 0. */
+/* The source channels that play, as their records stand; places past the count are 0. */
 typedef struct {
     unsigned char number;
     unsigned long place;
@@ -155,11 +171,12 @@ typedef struct {
     unsigned char note;
 } casm_note;
 
-/* A channel record: its edition; its bytes, of which a record of the first edition uses the first 26, bytes 0-25 of its Ctab; `has_cntt`, 0 where it
- * has no Cntt, and anything else where `cntt` is the Cntt's value; and the Cntt's position, its number among the group's Cntts, from 1, or 0 for none.
- * It comes back with `edition` CASM_FIRST_EDITION, the other 21 bytes 0, `has_cntt` 0 or 1, and `cntt` 0 where there is no Cntt. Of what is handed over the
- * edition is not looked at until the second edition is read, and neither are the other 21 bytes. Only casm_write looks at the position.
- * A flat table is an array of them. */
+/* A channel record: its edition, CASM_SECOND_EDITION for the second, and any other number for the first; its bytes, of which a record of the first
+ * edition uses the first 26, bytes 0-25 of its Ctab, and one of the second all 47, those of its Ctb2; `has_cntt`, 0 where it has no Cntt, and
+ * anything else where `cntt` is the Cntt's value; and the Cntt's position, its number among the group's Cntts, from 1, or 0 for none.
+ * What an edition does not use is not looked at: the other 21 bytes in the first, and in the second `has_cntt`, `cntt` and `position`.
+ * It comes back with `edition` CASM_FIRST_EDITION or CASM_SECOND_EDITION, what that edition does not use 0, `has_cntt` 0 or 1, and `cntt` 0 where
+ * there is no Cntt. Only casm_write looks at the position. A flat table is an array of rows. */
 typedef struct {
     unsigned char edition;
     unsigned char bytes[47];
@@ -183,7 +200,8 @@ typedef struct {
 casm_section casm_find(const unsigned char *file, unsigned long file_length);
 
 /* Reads a body strictly: how many groups it has.
- * Refusals: 3; per group 2, 6, 2, 12, then of what is in it 6, 2, 6, 2, 7, 8, 9, 10, 11, then 13. Below they are "the body's". */
+ * Refusals: 3; per group 2, 6, 2, 12, then of what is in it 6, 2, 6, 2, 7, 8, 9, 10, 11, then 21, 13. Below they are "the body's".
+ * 21 stands at the tag of a group whose records are of another edition than those of the first group with records. A group without records suits either. */
 casm_count casm_body(const unsigned char *body, unsigned long body_length);
 
 /* The group that has a part of this name.
@@ -199,7 +217,8 @@ casm_bounds casm_group(const unsigned char *body, unsigned long body_length, uns
 casm_position casm_channel(const unsigned char *body, unsigned long body_length, unsigned long group, unsigned char source);
 
 /* Fills `list` with the salvage list of a body, sound or damaged: three numbers an entry (place, length, kind), numbers past the last
- * entry kept. list_length counts numbers, not entries. CASM_MAX_LIST numbers are enough for any body.
+ * entry kept. list_length counts numbers, not entries. CASM_MAX_LIST numbers are enough for any body. Each group is taken by itself, so that
+ * the list may show groups of both editions, and no kind is 12, 13 or 21.
  * Refusals: 3; 14. */
 casm_count casm_salvage(const unsigned char *body, unsigned long body_length, unsigned long *list, unsigned long list_length);
 
@@ -213,24 +232,30 @@ casm_players casm_plays(
 casm_span casm_voice(const unsigned char *body, unsigned long body_length, unsigned long group, unsigned char source);
 
 /* The note that a record gives for a note (0-127) under a chord root (0-11). Where no octave of it lies within the record's limits, which may be
- * crossed, it is the octave within 0 to 127 that is nearest to the low limit, the lower of two equally near.
- * Refusals: 16 for root or note; 9 for a byte of the record, at its place (a bad Cntt value counts as byte 21); 17. */
+ * crossed, it is the octave within 0 to 127 that is nearest to the low limit, the lower of two equally near. A record of the second edition places
+ * a note below its byte 20 by its low set (bytes 22-27), else one above its byte 21 by its high set (34-39), and any other by its middle set (28-33).
+ * Refusals: 16 for root or note; 9 for a byte of the record, used for this note or not, at its place (a bad Cntt value counts as byte 21); 17,
+ * which a set of rule 2 always gives. */
 casm_note casm_place(casm_row row, unsigned char root, unsigned char note);
 
-/* Replaces the record of a group and source channel inside a body: only that Ctab's 27 bytes change. A Cntt in `row` is neither read
- * nor checked, nor is its position.
- * Refusals: the body's; 16 where there is no such group; 15; 16 for another source channel in `row`; 9, at the byte of the record. */
+/* Replaces the record of a group and source channel inside a body: only that Ctab's 27 bytes, or that Ctb2's 47, change. A Cntt in `row` is
+ * neither read nor checked, nor is its position.
+ * Refusals: the body's; 16 where there is no such group; 15; 16 for another source channel in `row`; 21, at 0, where `row` is of another edition
+ * than the group; 9, at the byte of the record. */
 casm_answer casm_edit(unsigned char *body, unsigned long body_length, unsigned long group, unsigned char source, casm_row row);
 
-/* One byte (index 0-25) of a record set to a value, all others kept, and its Cntt with its position.
+/* One byte (index 0-25, or 0-46 in the second edition) of a record set to a value, all others kept, and its Cntt with its position.
+ * Only the value is judged, a set's table by the rule that the record then has (over 2 counts as 0): so a rule 2 may be set over a table that
+ * it does not allow, and casm_write, casm_edit and casm_place then answer 9 at that table.
  * Refusals: 16 for the index; 9 for the value, at the index. */
 casm_edited casm_field(casm_row row, unsigned long index, unsigned char value);
 
 /* Writes one group at the start of `out`, from its Sdec's text and the first `count` records of a flat table; later bytes are kept.
  * The Cntts stand by their positions.
  * flat_length counts bytes: the table has flat_length / 51 records, however many, and bytes left over are not looked at.
- * Refusals: 16 where the count is above that; 8; per record 9, 10, at 27 times its number plus the byte; 18 unless each of these records
- * without a Cntt has position 0 and the others have 1 to their number, each once; 14. */
+ * Refusals: 16 where the count is above that; 8; per record 21 where it is of another edition than the first, 9, 10, at 27 times its number
+ * plus the byte, or 47 times where the first is of the second edition; 18 unless each of these records without a Cntt has position 0 and the others
+ * have 1 to their number, each once; 14. */
 casm_length casm_write(
     const unsigned char *text, unsigned long text_length, const unsigned char *flat, unsigned long flat_length, unsigned long count, unsigned char *out,
     unsigned long out_length);

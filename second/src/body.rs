@@ -1,6 +1,8 @@
 //! The strict body and what is asked of it. Follows "Strict body: 3; per group header cut 2,
-//! tag 6, length 2, count 12, contents, then 13" and "After the body: 16 for numbers, 15".
+//! tag 6, length 2, count 12, contents, then 13", document 02, §4: 21 "after its contents and
+//! before 13", and "After the body: 16 for numbers, 15".
 
+use crate::edition::Edition;
 use crate::group::{contents, group_header, Group};
 use crate::record::Record;
 use crate::refusal::{refuse, Answer};
@@ -17,6 +19,7 @@ pub fn read_body(body: &[u8]) -> Answer<Vec<Group<'_>>> {
     }
     let mut groups: Vec<Group> = Vec::new();
     let mut earlier: HashSet<&[u8]> = HashSet::new();
+    let mut edition: Option<Edition> = None;
     let mut place = 0;
     while place < body.len() {
         let found = group_header(body, place)?;
@@ -24,6 +27,10 @@ pub fn read_body(body: &[u8]) -> Answer<Vec<Group<'_>>> {
             return refuse(12, place);
         }
         let group = contents(body, found)?;
+        if unlike(edition, group.edition()) {
+            return refuse(21, place);
+        }
+        edition = edition.or(group.edition());
         if names(group.text).any(|name| earlier.contains(name)) {
             return refuse(13, place);
         }
@@ -32,6 +39,12 @@ pub fn read_body(body: &[u8]) -> Answer<Vec<Group<'_>>> {
         groups.push(group);
     }
     Ok(groups)
+}
+
+/// "A group of another edition than the first group with records (one without records suits
+/// either)".
+fn unlike(first: Option<Edition>, own: Option<Edition>) -> bool {
+    first.is_some() && own.is_some() && first != own
 }
 
 /// The group of a number, counted from 0, or 16.
@@ -59,12 +72,12 @@ pub fn read_group<'a>(
 ) -> Answer<(usize, &'a [u8])> {
     let groups = read_body(body)?;
     let group = group_of_number(&groups, number)?;
-    let count = group.ctabs.len();
+    let count = group.records.len();
     if count > lent.len() {
         return refuse(14, 0);
     }
-    for (room, ctab) in lent.iter_mut().zip(&group.ctabs) {
-        *room = ctab.record;
+    for (room, placed) in lent.iter_mut().zip(&group.records) {
+        *room = placed.record;
     }
     Ok((count, group.text))
 }

@@ -14,6 +14,7 @@ pub const CASM: Tag = *b"CASM";
 pub const CSEG: Tag = *b"CSEG";
 pub const SDEC: Tag = *b"Sdec";
 pub const CTAB: Tag = *b"Ctab";
+pub const CTB2: Tag = *b"Ctb2";
 pub const CNTT: Tag = *b"Cntt";
 
 /// The four bytes at a place; they must be there.

@@ -3,11 +3,12 @@
 
 use crate::body::{read_body, read_group};
 use crate::edit::edit;
+use crate::edition::{Edition, FIELDS};
 use crate::list::LIST_ROOM;
 use crate::lookup::{find_channel, find_group, find_part};
 use crate::place::place_note;
 use crate::plays::who_plays;
-use crate::record::{Record, FIELDS};
+use crate::record::{First, Record};
 use crate::refusal::Refusal;
 use crate::salvage::{salvage, Entry};
 use crate::screen::set_field;
@@ -30,11 +31,11 @@ pub const WRITE_ROOM: usize = 2_048;
 
 /// The sentinels of lent memory.
 const LENT_BYTE: u8 = 0xAA;
-const LENT_RECORD: Record = Record {
+const LENT_RECORD: Record = Record::First(First {
     bytes: [0xEE; FIELDS],
     second_table: None,
     position: 238,
-};
+});
 const LENT_ENTRY: Entry = Entry {
     place: 7,
     length: 7,
@@ -213,18 +214,28 @@ fn run_part(body: &[u8], part: &[u8]) -> String {
     }
 }
 
+/// The number of a group's edition: "1 or 2, and 0 for a group without records".
+fn edition_number(edition: Option<Edition>) -> u8 {
+    match edition {
+        None => 0,
+        Some(Edition::First) => 1,
+        Some(Edition::Second) => 2,
+    }
+}
+
 fn run_where(body: &[u8], group: u32) -> String {
     match find_group(body, group) {
         Ok(found) => format!(
-            "ok {} {} {} {} {} {} {} {}",
+            "ok {} {} {} {} {} {} {} {} {}",
             found.place,
             found.size,
             found.text,
             found.text_length,
-            found.ctabs.place,
-            found.ctabs.count,
+            found.records.place,
+            found.records.count,
             found.cntts.place,
             found.cntts.count,
+            edition_number(found.edition),
         ),
         Err(refusal) => refused(refusal),
     }
@@ -254,19 +265,32 @@ fn run_salvage(body: &[u8], room: usize) -> String {
 #[cfg(test)]
 mod tests {
     use super::*;
+    use crate::edition::CTB2_BYTES;
 
     #[test]
     fn kept_looks_at_the_memory() {
         assert_eq!(kept(&[LENT_ENTRY; 2], LENT_ENTRY), "kept");
         assert_eq!(kept(&[], LENT_RECORD), "kept");
-        let mut lent = [LENT_RECORD; 3];
-        lent[2].bytes[25] = 0;
-        assert_eq!(kept(&lent, LENT_RECORD), "changed");
-        lent[2] = LENT_RECORD;
-        lent[0].second_table = Some(0xEE);
-        assert_eq!(kept(&lent, LENT_RECORD), "changed");
-        lent[0] = LENT_RECORD;
-        lent[1].position = 0;
-        assert_eq!(kept(&lent, LENT_RECORD), "changed");
+        let first = |position, second_table, byte| {
+            let mut bytes = [0xEE; FIELDS];
+            bytes[25] = byte;
+            Record::First(First {
+                bytes,
+                second_table,
+                position,
+            })
+        };
+        let of_the_second_edition = Record::Second([0xEE; CTB2_BYTES]);
+        for other in [
+            first(238, None, 0),
+            first(238, Some(0xEE), 0xEE),
+            first(0, None, 0xEE),
+            of_the_second_edition,
+        ] {
+            let mut lent = [LENT_RECORD; 3];
+            assert_eq!(kept(&lent, LENT_RECORD), "kept");
+            lent[2] = other;
+            assert_eq!(kept(&lent, LENT_RECORD), "changed");
+        }
     }
 }

@@ -1,9 +1,12 @@
 //! Editing one record inside a body: "Only that Ctab's 27 bytes may change; a Cntt given with
 //! the new record is neither read nor checked", and of its position: "an edit doesn't read it"
-//! (document 02, §1). Order: body, 16, 15, source channel 16, 9.
+//! (document 02, §1). Of a Ctb2 the 47 bytes may change. Order: body, 16, 15, source channel 16,
+//! 21 (document 02, §4: "an edit's record unlike the body's (place 0, before 9)"), 9.
 
-use crate::lookup::find_channel;
-use crate::record::{first_out_of_range, Record, FIELDS};
+use crate::edition::{Edition, FIELDS};
+use crate::lookup::{find_channel, find_group};
+use crate::ranges::first_out_of_range;
+use crate::record::Record;
 use crate::refusal::{refuse, Answer};
 
 /// Replaces the record of a group and source channel.
@@ -12,10 +15,16 @@ pub fn edit(body: &mut [u8], group: u32, channel: u8, record: &Record) -> Answer
     if record.source_channel() != channel {
         return refuse(16, 0);
     }
-    if let Some(index) = first_out_of_range(&record.bytes) {
+    let edition = record.edition();
+    if find_group(body, group)?.edition != Some(edition) {
+        return refuse(21, 0);
+    }
+    if let Some(index) = first_out_of_range(edition, record.bytes()) {
         return refuse(9, index);
     }
-    body[place..place + FIELDS].copy_from_slice(&record.bytes);
-    body[place + FIELDS] = 0x00;
+    body[place..place + edition.fields()].copy_from_slice(record.bytes());
+    if edition == Edition::First {
+        body[place + FIELDS] = 0x00;
+    }
     Ok(())
 }

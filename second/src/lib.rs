@@ -1,4 +1,4 @@
-//! The second program: document 01 once more, with requests §1 and §3 of document 02, written
+//! The second program: document 01 once more, with requests §1, §3 and §4 of document 02, written
 //! from the documents alone. Each module follows one of document 01's headings; `calls` and
 //! `list` are its two programs.
 
@@ -6,12 +6,14 @@ pub mod body;
 pub mod bytes;
 pub mod calls;
 pub mod edit;
+pub mod edition;
 pub mod gen;
 pub mod group;
 pub mod list;
 pub mod lookup;
 pub mod place;
 pub mod plays;
+pub mod ranges;
 pub mod record;
 pub mod refusal;
 pub mod salvage;

@@ -1,20 +1,21 @@
-//! Placing a note by chord root. Follows "Placing a note" and "Placement: 16, 9, 17", and where
-//! no octave of the value lies within both limits document 02, §3.
+//! Placing a note by chord root. Follows "Placing a note" and "Placement: 16, 9, 17"; where no
+//! octave of the value lies within both limits document 02, §3; and for the second edition §4.
 
 use crate::plays::ROOTS;
-use crate::record::{first_bad_byte, Record, TABLE};
+use crate::ranges::{
+    BASS, GUITAR, HIGHEST_MIDDLE, HIGH_KEY, HIGH_LIMIT, HIGH_SET, LOWEST_MIDDLE, LOW_LIMIT,
+    LOW_SET, MIDDLE_SET, ONLY_SET, ROOT_FIXED, RULE, TABLE,
+};
+use crate::record::{first_bad_byte, Record};
 use crate::refusal::{refuse, Answer};
 
 pub const NOTES: u8 = 128;
 
 const SOURCE_ROOT: usize = 18;
-const RULE: usize = 20;
-const HIGH_KEY: usize = 22;
-const LOW_LIMIT: usize = 23;
-const HIGH_LIMIT: usize = 24;
 
 /// Tables 00 to 05 where no Cntt stands.
 const EFFECTIVE: [u8; 6] = [0x00, 0x01, 0x02, 0x81, 0x03, 0x05];
+const BYPASS: u8 = 0x00;
 const OCTAVE: i32 = 12;
 
 /// The note that sounds.
@@ -25,29 +26,44 @@ pub fn place_note(record: &Record, chord_root: u8, note: u8) -> Answer<u8> {
     if let Some(index) = first_bad_byte(record) {
         return refuse(9, index);
     }
-    let shift = if bypass(record) {
-        0
-    } else if record.bytes[RULE] == 1 {
-        return refuse(17, 0);
-    } else {
-        shift(record, chord_root)
+    let set = set_of(record, note);
+    let table = effective_table(record, set);
+    let shift = match record[set + RULE] {
+        GUITAR => return refuse(17, 0),
+        _ if table == BYPASS || table == BYPASS | BASS => 0,
+        ROOT_FIXED => return refuse(17, 0),
+        _ => shift(record, set, chord_root),
     };
-    Ok(fold(record, i32::from(note) + shift))
+    Ok(fold(record, set, i32::from(note) + shift))
 }
 
-/// Whether the effective table is bypass, 00 or 80.
-fn bypass(record: &Record) -> bool {
-    let table = match record.second_table {
-        Some(value) => value,
-        None => EFFECTIVE[usize::from(record.bytes[TABLE])],
-    };
-    table == 0x00 || table == 0x80
+/// Where the set begins that a note uses: "A source note below byte 20 uses the low set, else one
+/// above byte 21 the high set, else the middle set."
+fn set_of(record: &Record, note: u8) -> usize {
+    match record {
+        Record::First(_) => ONLY_SET,
+        Record::Second(bytes) if note < bytes[LOWEST_MIDDLE] => LOW_SET,
+        Record::Second(bytes) if note > bytes[HIGHEST_MIDDLE] => HIGH_SET,
+        Record::Second(_) => MIDDLE_SET,
+    }
+}
+
+/// The Cntt value if present, else by the table; in the second edition "a set's table is its
+/// effective table".
+fn effective_table(record: &Record, set: usize) -> u8 {
+    match record {
+        Record::First(first) => match first.second_table {
+            Some(value) => value,
+            None => EFFECTIVE[usize::from(record[set + TABLE])],
+        },
+        Record::Second(bytes) => bytes[set + TABLE],
+    }
 }
 
 /// Chord root minus source root, less 12 when the chord root is above the high key.
-fn shift(record: &Record, chord_root: u8) -> i32 {
-    let shift = i32::from(chord_root) - i32::from(record.bytes[SOURCE_ROOT]);
-    if chord_root > record.bytes[HIGH_KEY] {
+fn shift(record: &Record, set: usize, chord_root: u8) -> i32 {
+    let shift = i32::from(chord_root) - i32::from(record[SOURCE_ROOT]);
+    if chord_root > record[set + HIGH_KEY] {
         shift - OCTAVE
     } else {
         shift
@@ -56,9 +72,9 @@ fn shift(record: &Record, chord_root: u8) -> i32 {
 
 /// The value by octaves into the limits: up to the low limit, or down to the high limit. Where
 /// this does not end within both, no octave lies there, and the nearest one is the answer.
-fn fold(record: &Record, value: i32) -> u8 {
-    let low = i32::from(record.bytes[LOW_LIMIT]);
-    let high = i32::from(record.bytes[HIGH_LIMIT]);
+fn fold(record: &Record, set: usize, value: i32) -> u8 {
+    let low = i32::from(record[set + LOW_LIMIT]);
+    let high = i32::from(record[set + HIGH_LIMIT]);
     let mut folded = value;
     if value < low {
         while folded < low {

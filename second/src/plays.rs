@@ -23,7 +23,7 @@ pub fn who_plays(body: &[u8], part: &[u8], root: u8, chord_type: u8) -> Answer<V
         return refuse(16, 0);
     }
     let number = number_of_part(&groups, part)?;
-    let records = groups[number].ctabs.iter().map(|ctab| &ctab.record);
+    let records = groups[number].records.iter().map(|placed| &placed.record);
     Ok(records
         .filter(|record| plays(record, root, chord_type))
         .map(Record::source_channel)

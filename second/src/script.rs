@@ -1,7 +1,8 @@
 //! The tokens of a script line, and printing them: BYTES, REC and numbers, as the protocol of
 //! `calls` states them. A token that breaks the grammar is none.
 
-use crate::record::{Record, FIELDS};
+use crate::edition::CTB2_BYTES;
+use crate::record::{First, Record};
 use std::fmt::Write;
 
 /// A longer line is `bad`, whatever it holds.
@@ -93,22 +94,25 @@ pub fn bytes(token: &[u8]) -> Option<Vec<u8>> {
 }
 
 /// REC: 52 hex digits, `:`, the Cntt value as two hex digits or `-`, `:`, then the Cntt's
-/// position, "a byte in decimal".
+/// position, "a byte in decimal"; or "94 hex digits (47 bytes) with nothing behind them".
 pub fn record(token: &[u8]) -> Option<Record> {
     let parts: Vec<&[u8]> = token.split(|&byte| byte == b':').collect();
-    let &[digits, cntt, position] = parts.as_slice() else {
-        return None;
-    };
-    let second_table = match cntt {
-        b"-" => None,
-        _ if cntt.len() == 2 => Some(pairs(cntt)?[0]),
-        _ => return None,
-    };
-    Some(Record {
-        bytes: pairs(digits)?.try_into().ok()?,
-        second_table,
-        position: byte(position)?,
-    })
+    match *parts.as_slice() {
+        [digits] => Some(Record::Second(pairs(digits)?.try_into().ok()?)),
+        [digits, cntt, position] => {
+            let second_table = match cntt {
+                b"-" => None,
+                _ if cntt.len() == 2 => Some(pairs(cntt)?[0]),
+                _ => return None,
+            };
+            Some(Record::First(First {
+                bytes: pairs(digits)?.try_into().ok()?,
+                second_table,
+                position: byte(position)?,
+            }))
+        }
+        _ => None,
+    }
 }
 
 /// Bytes as plain hex, `-` where there are none.
@@ -123,14 +127,16 @@ pub fn show_bytes(bytes: &[u8]) -> String {
 
 /// A record as REC.
 pub fn show_record(record: &Record) -> String {
-    let mut text = String::with_capacity(2 * FIELDS + 7);
-    push_hex(&mut text, &record.bytes);
-    text.push(':');
-    match record.second_table {
-        Some(value) => push_hex(&mut text, &[value]),
-        None => text.push('-'),
+    let mut text = String::with_capacity(2 * CTB2_BYTES);
+    push_hex(&mut text, record.bytes());
+    if let Record::First(first) = record {
+        text.push(':');
+        match first.second_table {
+            Some(value) => push_hex(&mut text, &[value]),
+            None => text.push('-'),
+        }
+        let _ = write!(text, ":{}", first.position);
     }
-    let _ = write!(text, ":{}", record.position);
     text
 }
 

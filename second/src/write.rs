@@ -1,9 +1,10 @@
 //! Writing one group. Follows "Writing and editing" and "Writing: 16 when the count exceeds
-//! the lent table, 8, per record 9 then 10, 14"; and document 02, §1: "18, positions wrong,
-//! after each record's 9 and 10 and before 14 in writing, place 0".
+//! the lent table, 8, per record 9 then 10, 14"; document 02, §1: "18, positions wrong, after
+//! each record's 9 and 10 and before 14 in writing, place 0"; and §4: 21 for "a written record
+//! unlike the first in edition (its byte 0, before its 9)".
 
-use crate::bytes::{Tag, CNTT, CSEG, CTAB, SDEC};
-use crate::record::{first_bad_byte, Record, CTAB_BYTES};
+use crate::bytes::{Tag, CNTT, CSEG, SDEC};
+use crate::record::{first_bad_byte, First, Record, SOURCE_CHANNEL};
 use crate::refusal::{refuse, Answer};
 use crate::sdec::text_sound;
 
@@ -26,10 +27,15 @@ pub fn write_group(text: &[u8], table: &[Record], count: u32, lent: &mut [u8]) -
     Ok(group.len())
 }
 
-/// Record by record, 9 and then 10.
+/// Record by record, 21, 9 and then 10; "Places in writing count 47 a record" of the second
+/// edition, and the first record says which edition that is.
 fn judge_records(records: &[Record]) -> Answer<()> {
     for (number, record) in records.iter().enumerate() {
-        let place = CTAB_BYTES * number;
+        let edition = records[0].edition();
+        let place = edition.size() * number;
+        if record.edition() != edition {
+            return refuse(21, place);
+        }
         if let Some(index) = first_bad_byte(record) {
             return refuse(9, place + index);
         }
@@ -44,41 +50,44 @@ fn judge_records(records: &[Record]) -> Answer<()> {
     Ok(())
 }
 
-/// 18 "unless records without a Cntt have 0 and the others 1 to their number, each once".
+/// 18 "unless records without a Cntt have 0 and the others 1 to their number, each once"; a
+/// second-edition record has neither.
 fn judge_positions(records: &[Record]) -> Answer<()> {
-    let mut positions: Vec<usize> = with_cntt(records)
-        .map(|record| usize::from(record.position))
-        .collect();
+    let (with, without): (Vec<&First>, Vec<&First>) =
+        firsts(records).partition(|record| record.second_table.is_some());
+    let mut positions: Vec<usize> = with.iter().map(|r| usize::from(r.position)).collect();
     positions.sort_unstable();
     let each_once = positions.iter().copied().eq(1..=positions.len());
-    let others_0 = records
-        .iter()
-        .all(|record| record.has_cntt() || record.position == 0);
+    let others_0 = without.iter().all(|record| record.position == 0);
     if !each_once || !others_0 {
         return refuse(18, 0);
     }
     Ok(())
 }
 
-/// The records that have a Cntt, in Ctab order.
-fn with_cntt(records: &[Record]) -> impl Iterator<Item = &Record> {
-    records.iter().filter(|record| record.has_cntt())
+/// The first-edition records among these, in their order.
+fn firsts(records: &[Record]) -> impl Iterator<Item = &First> {
+    records.iter().filter_map(|record| match record {
+        Record::First(first) => Some(first),
+        Record::Second(_) => None,
+    })
 }
 
-/// The bytes of a group: its Sdec, its Ctabs, then by position a Cntt for each record that has
-/// one; records of one position, which are never written, follow one another as they stand.
+/// The bytes of a group: its Sdec, its Ctabs or Ctb2s, then by position a Cntt for each record
+/// that has one; records of one position, which are never written, follow one another as they
+/// stand.
 pub fn group_bytes(text: &[u8], records: &[Record]) -> Vec<u8> {
     let mut children = chunk(SDEC, text);
     for record in records {
-        let mut ctab = record.bytes.to_vec();
-        ctab.push(0x00);
-        children.extend(chunk(CTAB, &ctab));
+        let mut bytes = record.bytes().to_vec();
+        bytes.resize(record.edition().size(), 0x00);
+        children.extend(chunk(record.edition().tag(), &bytes));
     }
-    let mut by_position: Vec<&Record> = with_cntt(records).collect();
+    let mut by_position: Vec<&First> = firsts(records).collect();
     by_position.sort_by_key(|record| record.position);
     for record in by_position {
         if let Some(value) = record.second_table {
-            children.extend(chunk(CNTT, &[record.source_channel(), value]));
+            children.extend(chunk(CNTT, &[record.bytes[SOURCE_CHANNEL], value]));
         }
     }
     chunk(CSEG, &children)

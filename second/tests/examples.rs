@@ -122,8 +122,8 @@ fn example_10_damaged_group_length() {
 #[test]
 fn example_11_root_mask() {
     let mut record = plain_record();
-    record.bytes[11] = 0x0E;
-    record.bytes[12] = 0xA3;
+    record[11] = 0x0E;
+    record[12] = 0xA3;
     let body = group_bytes(b"Main A", &[record]);
     let hex = show_bytes(&body);
     for root in 0..12 {
@@ -140,12 +140,12 @@ fn example_11_root_mask() {
 /// The record of examples 12 to 15: rule 0, no Cntt, source root 0, high key 5, table 01.
 fn melody(low: u8, high: u8) -> Record {
     let mut record = plain_record();
-    record.bytes[18] = 0;
-    record.bytes[20] = 0;
-    record.bytes[21] = 1;
-    record.bytes[22] = 5;
-    record.bytes[23] = low;
-    record.bytes[24] = high;
+    record[18] = 0;
+    record[20] = 0;
+    record[21] = 1;
+    record[22] = 5;
+    record[23] = low;
+    record[24] = high;
     record
 }
 

@@ -5,7 +5,7 @@ mod common;
 
 use common::{m, plain_record};
 use second::calls::{answer, calls};
-use second::record::Record;
+use second::gen::cntts::{at_position, with_cntt};
 use second::script::{bytes, number, record, show_bytes, show_record};
 
 fn is(line: &str, expected: &str) {
@@ -90,13 +90,12 @@ fn forms_of_numbers() {
 
 #[test]
 fn forms_of_records() {
-    let mut plain = plain_record();
+    let plain = plain_record();
     let shown = show_record(&plain);
     assert_eq!(shown.len(), 56);
     assert!(shown.ends_with(":-:0"));
     assert_eq!(record(shown.as_bytes()), Some(plain));
-    plain.second_table = Some(0x8A);
-    plain.position = 255;
+    let plain = at_position(with_cntt(plain, Some(0x8A)), 255);
     let with_cntt = show_record(&plain);
     assert!(with_cntt.ends_with(":8a:255"));
     assert_eq!(record(with_cntt.as_bytes()), Some(plain));
@@ -166,11 +165,7 @@ fn forms_of_positions() {
         ("00:007", Some(0), 7),
         ("-:000000000000000000000000000000238", None, 238),
     ] {
-        let expected = Record {
-            second_table,
-            position,
-            ..plain_record()
-        };
+        let expected = at_position(with_cntt(plain_record(), second_table), position);
         let token = format!("{digits}:{end}");
         assert_eq!(record(token.as_bytes()), Some(expected), "{end}");
         let kept = show_record(&expected);
@@ -331,12 +326,8 @@ fn one_answer_of_each_verb() {
     is(&format!("group {hex} 0 0"), "refused 14 0 kept");
     let shuffled = [(7, 2), (3, 1)].map(|(channel, position)| {
         let mut record = plain_record();
-        record.bytes[0] = channel;
-        Record {
-            second_table: Some(0x84),
-            position,
-            ..record
-        }
+        record[0] = channel;
+        at_position(with_cntt(record, Some(0x84)), position)
     });
     let two = show_bytes(&second::write::group_bytes(b"A", &shuffled));
     let [seven, three] = shuffled.map(|record| show_record(&record));
@@ -378,7 +369,7 @@ fn one_answer_of_each_verb() {
     is(&format!("screen {rec} 0 16"), &format!("refused 9 0 {rec}"));
     is(&format!("part {hex} 4d61696e2041"), "ok 0");
     is(&format!("part {hex} 4d61696e"), "refused 15 0");
-    is(&format!("where {hex} 0"), "ok 0 57 16 6 22 1 57 0");
+    is(&format!("where {hex} 0"), "ok 0 57 16 6 22 1 57 0 1");
     is(&format!("where {hex} 1"), "refused 16 0");
     is(&format!("channel {hex} 0 3"), "ok 0 30");
     is(&format!("channel {hex} 0 255"), "refused 15 0");

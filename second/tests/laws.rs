@@ -2,18 +2,21 @@
 
 mod common;
 
-use common::chunks::{groups, names, of_tag};
+use common::chunks::{edition, groups, names, of_tag, records};
 use common::{entries_of, plain_record};
 use second::body::{read_body, read_group};
 use second::calls::answer;
 use second::edit::edit;
+use second::edition::Edition;
+use second::gen::cntts::{at_position, position};
+use second::gen::ctb2;
 use second::gen::dice::Dice;
 use second::gen::positions::shuffle;
 use second::gen::sound;
 use second::gen::Script;
 use second::place::place_note;
 use second::plays::who_plays;
-use second::record::Record;
+use second::record::{First, Record};
 use second::script::{bytes, number, record, show_record, tokens};
 use second::style::find;
 use second::voice::voice_name;
@@ -53,23 +56,23 @@ fn group_slices(body: &[u8]) -> Vec<&[u8]> {
     slices
 }
 
-const EMPTY: Record = Record {
+const EMPTY: Record = Record::First(First {
     bytes: [0x5A; 26],
     second_table: Some(0x5A),
     position: 0x5A,
-};
+});
 
 /// Whether the Cntts of these records do not stand as their Ctabs do.
 fn in_another_order(records: &[Record]) -> bool {
     let with_cntt = records
         .iter()
-        .filter(|record| record.second_table.is_some());
-    !with_cntt.map(|record| record.position).is_sorted()
+        .filter(|record| record.second_table().is_some());
+    !with_cntt.map(position).is_sorted()
 }
 
 #[test]
 fn reading_and_writing_back_gives_the_same_bytes() {
-    let (mut seen, mut another_order) = (0, 0);
+    let (mut seen, mut another_order, mut second) = (0, 0, 0);
     for body in some_bodies("body", 21, 5_000) {
         let Ok(groups) = read_body(&body) else {
             continue;
@@ -87,10 +90,52 @@ fn reading_and_writing_back_gives_the_same_bytes() {
             assert_eq!(&buffer[slice.len()..], [0x77; 3]);
             seen += 1;
             another_order += u32::from(in_another_order(&table[..count]));
+            second += u32::from(count > 0 && table[0].edition() == Edition::Second);
         }
     }
     assert!(seen > 2_000, "{seen}");
     assert!(another_order > 200, "{another_order}");
+    assert!(second > 400, "{second}");
+}
+
+/// 21 at a place exactly where all before it reads, the group there reads by itself and has records,
+/// and the first earlier group with records is of the other edition; a body that reads has one
+/// edition.
+#[test]
+fn another_edition_is_21_and_no_other() {
+    let mut seen = [0; 2];
+    for (parts, words) in answered("body", 45, 9_000) {
+        let body = bytes(&parts[1]).unwrap();
+        let editions = |bytes: &[u8]| -> Vec<usize> {
+            let groups = groups(bytes);
+            groups
+                .iter()
+                .map(|(_, children)| edition(children))
+                .collect()
+        };
+        let one_edition =
+            |bytes: &[u8]| !(editions(bytes).contains(&1) && editions(bytes).contains(&2));
+        if words[0] == "ok" {
+            assert!(one_edition(&body));
+            seen[0] += 1;
+        } else if words[1] == "21" {
+            let place: usize = words[2].parse().unwrap();
+            let before = &body[..place];
+            let alone = group_slice(&body, place);
+            assert!(read_body(before).is_ok() && read_body(alone).is_ok());
+            let earlier = editions(before).into_iter().find(|&edition| edition > 0);
+            let own = editions(alone)[0];
+            assert_eq!(earlier.map(|earlier| earlier + own), Some(3));
+            seen[1] += 1;
+        }
+    }
+    assert!(seen[0] > 2_000 && seen[1] > 80, "{seen:?}");
+}
+
+/// The group at a place of a body, by its length alone.
+fn group_slice(body: &[u8], place: usize) -> &[u8] {
+    let length = u32::from_be_bytes(body[place + 4..place + 8].try_into().unwrap());
+    &body[place..place + 8 + length as usize]
 }
 
 /// The records, the count and the answer of each `write` line whose count the table has.
@@ -112,7 +157,7 @@ fn writes(seed: u64, count: usize) -> Vec<(Vec<Record>, Vec<String>)> {
 #[test]
 fn writing_and_reading_back_gives_the_same_records() {
     let (mut seen, mut another_order) = (0, 0);
-    for (records, words) in writes(41, 5_000) {
+    for (records, words) in writes(41, 8_000) {
         if words[0] != "ok" {
             continue;
         }
@@ -133,21 +178,21 @@ fn positions_right(records: &[Record]) -> bool {
     let of = |cntt: bool| {
         records
             .iter()
-            .filter(move |r| r.second_table.is_some() == cntt)
+            .filter(move |r| r.second_table().is_some() == cntt)
     };
     let most = of(true).count();
     let once = |wanted: usize| {
-        let having = of(true).filter(|record| usize::from(record.position) == wanted);
+        let having = of(true).filter(|record| usize::from(position(record)) == wanted);
         having.count() == 1
     };
-    (1..=most).all(once) && of(false).all(|record| record.position == 0)
+    (1..=most).all(once) && of(false).all(|record| position(record) == 0)
 }
 
 /// 18 exactly where no earlier refusal is and the positions are wrong, whatever the room.
 #[test]
 fn wrong_positions_are_18_and_no_other() {
     let mut seen = [0; 2];
-    for (records, words) in writes(42, 5_000) {
+    for (records, words) in writes(42, 8_000) {
         if words[0] == "refused" && words[1] != "14" && words[1] != "18" {
             continue;
         }
@@ -162,7 +207,7 @@ fn wrong_positions_are_18_and_no_other() {
 /// The groups of sound generated bodies, each alone, with its number of Cntts.
 fn sound_groups(seed: u64) -> Vec<(Vec<u8>, usize)> {
     let mut list = Vec::new();
-    for body in some_bodies("body", seed, 5_000) {
+    for body in some_bodies("body", seed, 9_000) {
         if read_body(&body).is_ok() {
             for (group, children) in groups(&body) {
                 let cntts = of_tag(&children, b"Cntt").len();
@@ -195,18 +240,18 @@ fn cntts_may_stand_in_any_order() {
         let told = read_group(&group, 0, &mut before).unwrap();
         assert_eq!(read_group(&other, 0, &mut after).unwrap(), told);
         for (old, new) in before[..told.0].iter().zip(&after[..told.0]) {
-            let position = match old.position {
+            let now = match position(old) {
                 0 => 0,
-                _ => {
-                    let was = usize::from(old.position) - 1;
+                was => {
+                    let was = usize::from(was) - 1;
                     order.iter().position(|&row| row == was).unwrap() as u8 + 1
                 }
             };
-            assert_eq!(*new, Record { position, ..*old });
+            assert_eq!(*new, at_position(*old, now));
         }
         let part = told.1.split(|&byte| byte == b',').next().unwrap();
         for record in &before[..told.0] {
-            let channel = record.bytes[0];
+            let channel = record[0];
             assert_eq!(
                 voice_name(&group, 0, channel),
                 voice_name(&other, 0, channel)
@@ -228,18 +273,17 @@ fn only_writing_reads_positions() {
     let mut dice = Dice::new(44);
     for (verb, spot) in [("place", 1), ("edit", 4), ("screen", 1)] {
         for (mut parts, words) in answered(verb, 44, 1_500) {
-            let mut given = record(&parts[spot]).unwrap();
-            given.position = dice.byte();
+            let given = record(&parts[spot]).unwrap();
+            let given = at_position(given, dice.byte());
             parts[spot] = show_record(&given).into_bytes();
             let again = answer(&parts.join(&b' '));
             let mut again: Vec<String> = again.split(' ').map(str::to_string).collect();
             if verb == "screen" {
                 let last = again.len() - 1;
                 let shown = record(again[last].as_bytes()).unwrap();
-                assert_eq!(shown.position, given.position);
+                assert_eq!(position(&shown), position(&given));
                 let old = record(words[last].as_bytes()).unwrap();
-                let position = old.position;
-                again[last] = show_record(&Record { position, ..shown });
+                again[last] = show_record(&at_position(shown, position(&old)));
             }
             assert_eq!(again, words);
         }
@@ -377,8 +421,8 @@ fn an_edit_changes_one_record_only() {
             let old = read_group(&before, other, &mut old_table).unwrap();
             assert_eq!(read_group(&after, other, &mut new_table).unwrap(), old);
             for record in &mut old_table[..old.0] {
-                if other == group && record.bytes[0] == new.bytes[0] {
-                    record.bytes = new.bytes;
+                if other == group && record[0] == new[0] {
+                    record[..].copy_from_slice(new.bytes());
                     seen += 1;
                 }
             }
@@ -387,10 +431,8 @@ fn an_edit_changes_one_record_only() {
         let mut back = after.clone();
         let mut old_table = [EMPTY; 16];
         let (count, _) = read_group(&before, group, &mut old_table).unwrap();
-        let old = old_table[..count]
-            .iter()
-            .find(|old| old.bytes[0] == new.bytes[0]);
-        edit(&mut back, group, new.bytes[0], old.unwrap()).unwrap();
+        let old = old_table[..count].iter().find(|old| old[0] == new[0]);
+        edit(&mut back, group, new[0], old.unwrap()).unwrap();
         assert_eq!(back, before);
     }
     assert!(seen > 500, "{seen}");
@@ -401,7 +443,7 @@ fn a_key_press_changes_one_byte_only() {
     for (parts, words) in answered("screen", 31, 3_000) {
         if words[0] == "ok" {
             let mut expected = record(&parts[1]).unwrap();
-            expected.bytes[number(&parts[2]).unwrap() as usize] = number(&parts[3]).unwrap() as u8;
+            expected[number(&parts[2]).unwrap() as usize] = number(&parts[3]).unwrap() as u8;
             assert_eq!(record(words[1].as_bytes()).unwrap(), expected);
         }
     }
@@ -429,18 +471,18 @@ fn a_found_section_is_the_casm() {
 #[test]
 fn who_plays_by_binary_digits() {
     let mut dice = Dice::new(33);
-    for _ in 0..60 {
-        let records = sound::records(&mut dice, 5);
+    for turn in 0..60 {
+        let edition = [Edition::First, Edition::Second][turn % 2];
+        let records = sound::records_of(&mut dice, edition, 5);
         let body = second::write::group_bytes(b"Main A", &records);
         for root in 0..12 {
             for chord_type in 0..34 {
                 let expected: Vec<u8> = records
                     .iter()
                     .filter(|record| {
-                        digit(&record.bytes[11..13], root)
-                            && digit(&record.bytes[13..18], chord_type)
+                        digit(&record[11..13], root) && digit(&record[13..18], chord_type)
                     })
-                    .map(|record| record.bytes[0])
+                    .map(|record| record[0])
                     .collect();
                 let played = who_plays(&body, b"Main A", root as u8, chord_type as u8);
                 assert_eq!(played, Ok(expected));
@@ -458,17 +500,16 @@ fn digit(mask: &[u8], from_right: usize) -> bool {
 #[test]
 fn a_voice_name_is_a_part_of_the_body() {
     let mut dice = Dice::new(34);
-    for _ in 0..200 {
-        let records = sound::records(&mut dice, 3);
+    for turn in 0..200 {
+        let edition = [Edition::First, Edition::Second][turn % 2];
+        let records = sound::records_of(&mut dice, edition, 3);
         let body = second::write::group_bytes(b"Main A", &records);
         for (number, record) in records.iter().enumerate() {
-            let shown = voice_name(&body, 0, record.bytes[0]).unwrap();
-            let start = 22 + 35 * number + 8 + 1;
+            let shown = voice_name(&body, 0, record[0]).unwrap();
+            let start = 22 + (8 + edition.size()) * number + 8 + 1;
             assert_eq!(shown.as_ptr(), body[start..].as_ptr());
-            assert_eq!(&record.bytes[1..1 + shown.len()], shown);
-            assert!(record.bytes[1 + shown.len()..9]
-                .iter()
-                .all(|&byte| byte == b' '));
+            assert_eq!(&record[1..1 + shown.len()], shown);
+            assert!(record[1 + shown.len()..9].iter().all(|&byte| byte == b' '));
             assert_ne!(shown.last(), Some(&b' '));
         }
     }
@@ -506,19 +547,20 @@ fn a_group_stands_where_its_chunks_do() {
             assert_eq!(words, ["refused", "16", "0"]);
             continue;
         };
-        let (ctabs, cntts) = (of_tag(children, b"Ctab"), of_tag(children, b"Cntt"));
+        let (records, cntts) = (records(children), of_tag(children, b"Cntt"));
         let (sdec, end) = (&children[0], group.end());
         let first_cntt = cntts.first().map_or(end, |cntt| cntt.place);
-        let first_ctab = ctabs.first().map_or(first_cntt, |ctab| ctab.place);
+        let first_record = records.first().map_or(first_cntt, |record| record.place);
         let expected = [
             group.place,
             end - group.place,
             sdec.place + 8,
             sdec.payload.len(),
-            first_ctab,
-            ctabs.len(),
+            first_record,
+            records.len(),
             first_cntt,
             cntts.len(),
+            edition(children),
         ];
         assert_eq!(numbers(&words), Some(expected.to_vec()));
         seen += 1;
@@ -526,19 +568,20 @@ fn a_group_stands_where_its_chunks_do() {
     assert!(seen > 2_000, "{seen}");
 }
 
-/// Each answer of `channel`, and 15 exactly where no Ctab of the group begins with the channel.
+/// Each answer of `channel`, and 15 exactly where no Ctab or Ctb2 of the group begins with the
+/// channel.
 #[test]
-fn a_record_stands_where_its_ctab_does() {
+fn a_record_stands_where_its_chunk_does() {
     let mut seen = [0; 3];
     for (body, asked, words) in lookups("channel", 35) {
         let group = number(&asked[0]).unwrap() as usize;
         let channel = number(&asked[1]).unwrap();
         let expected = groups(&body).get(group).map(|(_, children)| {
-            let ctabs = of_tag(children, b"Ctab");
-            let row = ctabs
+            let records = records(children);
+            let row = records
                 .iter()
-                .position(|ctab| u32::from(ctab.payload[0]) == channel);
-            row.map(|row| vec![row, ctabs[row].place + 8])
+                .position(|record| u32::from(record.payload[0]) == channel);
+            row.map(|row| vec![row, records[row].place + 8])
         });
         let refusal = match &expected {
             None => Some(16),
@@ -576,6 +619,44 @@ fn a_part_is_a_name_of_its_group() {
     assert!(seen[0] > 300 && seen[1] > 1_500, "{seen:?}");
 }
 
+/// The same for second-edition records, by the set that the note uses.
+#[test]
+fn placement_by_a_set_by_brute_force() {
+    let mut dice = Dice::new(36);
+    let mut seen = [0; 3];
+    for _ in 0..160 {
+        let record = ctb2::record(&mut dice, 5);
+        for root in 0..12 {
+            for note in 0..128 {
+                let placed = place_note(&record, root, note);
+                let (which, set) = match note {
+                    _ if note < record[20] => (0, 22),
+                    _ if note > record[21] => (2, 34),
+                    _ => (1, 28),
+                };
+                seen[which] += 1;
+                let bypass = record[set + 1] & 0x7F == 0;
+                let expected = match record[set] {
+                    2 => None,
+                    1 if !bypass => None,
+                    _ => Some(octave_of(
+                        &record,
+                        set,
+                        bypass,
+                        i64::from(root),
+                        i64::from(note),
+                    )),
+                };
+                match expected {
+                    Some(expected) => assert_eq!(placed, Ok(expected), "{record:?} {root} {note}"),
+                    None => assert_eq!(placed.unwrap_err().number, 17),
+                }
+            }
+        }
+    }
+    assert!(seen.iter().all(|&count| count > 20_000), "{seen:?}");
+}
+
 /// Placement against every octave of the value, the answer picked by the documents' words.
 #[test]
 fn placement_by_brute_force() {
@@ -584,9 +665,9 @@ fn placement_by_brute_force() {
         let mut record = sound::record(&mut dice, 5);
         if turn < 20 {
             record = plain_record();
-            record.bytes[18] = (turn % 12) as u8;
-            record.bytes[23] = 6 * turn as u8;
-            record.bytes[24] = 6 * turn as u8 + [0, 3, 10, 11, 12][turn % 5];
+            record[18] = (turn % 12) as u8;
+            record[23] = 6 * turn as u8;
+            record[24] = 6 * turn as u8 + [0, 3, 10, 11, 12][turn % 5];
         }
         for root in 0..12 {
             for note in 0..128 {
@@ -602,22 +683,28 @@ fn placement_by_brute_force() {
 
 /// None where the answer is 17.
 fn by_octaves(record: &Record, root: i64, note: i64) -> Option<u8> {
-    let field = |index: usize| i64::from(record.bytes[index]);
-    let bypass = match record.second_table {
+    let field = |index: usize| i64::from(record[index]);
+    let bypass = match record.second_table() {
         Some(value) => value == 0x80,
         None => field(21) == 0,
     };
     if !bypass && field(20) == 1 {
         return None;
     }
+    Some(octave_of(record, 20, bypass, root, note))
+}
+
+/// The octave of a value that a set's high key and limits pick.
+fn octave_of(record: &Record, set: usize, bypass: bool, root: i64, note: i64) -> u8 {
+    let field = |index: usize| i64::from(record[index]);
     let mut value = note;
     if !bypass {
         value += root - field(18);
-        if root > field(22) {
+        if root > field(set + 2) {
             value -= 12;
         }
     }
-    let (low, high) = (field(23), field(24));
+    let (low, high) = (field(set + 3), field(set + 4));
     let octaves: Vec<i64> = (-20..=20)
         .map(|octave| value + 12 * octave)
         .filter(|other| (0..=127).contains(other))
@@ -635,7 +722,7 @@ fn by_octaves(record: &Record, root: i64, note: i64) -> Option<u8> {
     let nearest = octaves
         .iter()
         .min_by_key(|&&other| ((other - low).abs(), other));
-    chosen.or(nearest.copied()).map(|note| note as u8)
+    chosen.or(nearest.copied()).map_or(0, |note| note as u8)
 }
 
 /// The condition of the request's third demand is needed: new bytes that complete a CSEG begun

@@ -5,6 +5,7 @@ mod common;
 
 use common::{m, n, plain_record};
 use second::calls::answer;
+use second::gen::cntts::{at_position, with_cntt};
 use second::record::Record;
 use second::script::show_bytes;
 use second::write::group_bytes;
@@ -12,11 +13,8 @@ use second::write::group_bytes;
 /// A plain record of a channel, maybe with a Cntt.
 fn record(channel: u8, second_table: Option<u8>) -> Record {
     let mut record = plain_record();
-    record.bytes[0] = channel;
-    Record {
-        second_table,
-        ..record
-    }
+    record[0] = channel;
+    with_cntt(record, second_table)
 }
 
 /// Four groups, at 0, 24, 125 and 162: the first and the third have no record, "Intro" has
@@ -48,23 +46,23 @@ fn of(verb: &str, body: &[u8], tokens: &str) -> String {
 fn where_groups_stand() {
     let body = four();
     for (number, expected) in [
-        ("0", "ok 0 24 16 8 24 0 24 0"),
-        ("1", "ok 24 101 40 5 45 2 115 1"),
-        ("2", "ok 125 37 141 21 162 0 162 0"),
-        ("3", "ok 162 161 178 10 188 3 293 3"),
+        ("0", "ok 0 24 16 8 24 0 24 0 0"),
+        ("1", "ok 24 101 40 5 45 2 115 1 1"),
+        ("2", "ok 125 37 141 21 162 0 162 0 0"),
+        ("3", "ok 162 161 178 10 188 3 293 3 1"),
         ("4", "refused 16 0"),
         ("4294967295", "refused 16 0"),
     ] {
         assert_eq!(of("where", &body, number), expected, "{number}");
     }
-    assert_eq!(of("where", &m(), "0"), "ok 0 22 16 6 22 0 22 0");
+    assert_eq!(of("where", &m(), "0"), "ok 0 22 16 6 22 0 22 0 0");
     let both = [m(), n()].concat();
-    assert_eq!(of("where", &both, "1"), "ok 22 22 38 6 44 0 44 0");
+    assert_eq!(of("where", &both, "1"), "ok 22 22 38 6 44 0 44 0 0");
     let one = group_bytes(b"A", &[record(15, None)]);
-    assert_eq!(of("where", &one, "0"), "ok 0 52 16 1 17 1 52 0");
+    assert_eq!(of("where", &one, "0"), "ok 0 52 16 1 17 1 52 0 1");
     let sixteen: Vec<Record> = (0..16).map(|channel| record(channel, Some(6))).collect();
     let full = group_bytes(b"A", &sixteen);
-    assert_eq!(of("where", &full, "0"), "ok 0 737 16 1 17 16 577 16");
+    assert_eq!(of("where", &full, "0"), "ok 0 737 16 1 17 16 577 16 1");
 }
 
 #[test]
@@ -92,14 +90,11 @@ fn where_records_stand() {
 /// Cntts by channel number beside Ctabs that are not (document 02, §1): all stands as before.
 #[test]
 fn where_things_stand_beside_cntts_in_another_order() {
-    let at = |channel, position| Record {
-        position,
-        ..record(channel, Some(0x84))
-    };
+    let at = |channel, position| at_position(record(channel, Some(0x84)), position);
     for positions in [[1, 2, 3], [3, 1, 2], [2, 3, 1]] {
         let [first, second, third] = positions;
         let body = group_bytes(b"A", &[at(15, first), at(0, second), at(9, third)]);
-        assert_eq!(of("where", &body, "0"), "ok 0 152 16 1 17 3 122 3");
+        assert_eq!(of("where", &body, "0"), "ok 0 152 16 1 17 3 122 3 1");
         assert_eq!(of("channel", &body, "0 15"), "ok 0 25");
         assert_eq!(of("channel", &body, "0 9"), "ok 2 95");
         assert_eq!(of("part", &body, "41"), "ok 0");

@@ -5,6 +5,7 @@ mod common;
 
 use common::plain_record;
 use second::calls::answer;
+use second::gen::cntts::with_cntt;
 use second::place::place_note;
 use second::record::Record;
 use second::script::show_record;
@@ -17,10 +18,10 @@ fn asked(value: i32, low: u8, high: u8) -> (Record, u8, u8) {
         _ => (11, 0, 11, value - 11),
     };
     let mut record = plain_record();
-    record.bytes[18] = source;
-    record.bytes[22] = key;
-    record.bytes[23] = low;
-    record.bytes[24] = high;
+    record[18] = source;
+    record[22] = key;
+    record[23] = low;
+    record[24] = high;
     (record, root, note as u8)
 }
 
@@ -124,12 +125,12 @@ fn bypass_in_four_keys() {
     for (table, cntt) in [(0, None), (3, Some(0x80)), (0, Some(0x80))] {
         for rule in [0, 1] {
             let mut record = plain_record();
-            record.bytes[18..25].copy_from_slice(&[7, 2, rule, table, 1, 60, 63]);
-            record.second_table = cntt;
+            record[18..25].copy_from_slice(&[7, 2, rule, table, 1, 60, 63]);
+            record = with_cntt(record, cntt);
             for (note, expected) in [(66, 54), (65, 65), (71, 59), (62, 62), (74, 62)] {
                 assert_eq!(place_note(&record, 5, note), Ok(expected));
             }
-            record.bytes[23] = 127;
+            record[23] = 127;
             assert_eq!(place_note(&record, 5, 8), Ok(116));
         }
     }
@@ -146,9 +147,9 @@ fn refusals_as_before() {
         };
         assert_eq!(refused(&record, 12, 54), (16, 0));
         assert_eq!(refused(&record, 0, 128), (16, 0));
-        record.bytes[20] = 1;
+        record[20] = 1;
         assert_eq!(refused(&record, 0, 54), (17, 0));
-        record.bytes[25] = 6;
+        record[25] = 6;
         assert_eq!(refused(&record, 0, 54), (9, 25));
         assert_eq!(refused(&record, 12, 54), (16, 0));
     }
@@ -185,7 +186,7 @@ fn all_limits_and_every_remainder() {
             .collect();
         let (mut record, root, note) = asked(value, 0, 0);
         for (low, high) in (0..128).flat_map(|low| (0..128).map(move |high| (low, high))) {
-            record.bytes[23..25].copy_from_slice(&[low as u8, high as u8]);
+            record[23..25].copy_from_slice(&[low as u8, high as u8]);
             let placed = i32::from(place_note(&record, root, note).unwrap());
             assert!(octaves.contains(&placed), "{value} {low}-{high}: {placed}");
             let within = by_document_01(value, low, high, &octaves);

@@ -3,13 +3,14 @@
 
 mod common;
 
-use common::{entries_of, m, n, plain_record, REFUSED_NONE};
+use common::{entries_of, m, n, plain_record, second_record, REFUSED_NONE};
 use second::body::{read_body, read_group};
 use second::edit::edit;
+use second::gen::cntts::{at_position, with_cntt};
 use second::lookup::{find_channel, find_group, find_part};
 use second::place::place_note;
 use second::plays::who_plays;
-use second::record::Record;
+use second::record::{First, Record};
 use second::refusal::Refusal;
 use second::salvage::{salvage, Entry};
 use second::screen::set_field;
@@ -37,24 +38,20 @@ fn file(sections: &[u8]) -> Vec<u8> {
 /// A plain record of a channel, with some bytes set and maybe a Cntt.
 fn record(channel: u8, changes: &[(usize, u8)], cntt: Option<u8>) -> Record {
     let mut record = plain_record();
-    record.bytes[0] = channel;
+    record[0] = channel;
     for &(index, value) in changes {
-        record.bytes[index] = value;
+        record[index] = value;
     }
-    record.second_table = cntt;
-    record
+    with_cntt(record, cntt)
 }
 
 /// A record whose Cntt has a position.
 fn positioned(channel: u8, cntt: Option<u8>, position: u8) -> Record {
-    Record {
-        position,
-        ..record(channel, &[], cntt)
-    }
+    at_position(record(channel, &[], cntt), position)
 }
 
 fn ctab(record: &Record) -> Vec<u8> {
-    chunk(*b"Ctab", &[&record.bytes[..], &[0]].concat())
+    chunk(*b"Ctab", &[record.bytes(), &[0]].concat())
 }
 
 fn cntt(channel: u8, value: u8) -> Vec<u8> {
@@ -356,6 +353,56 @@ fn behind_cntts_in_another_order() {
     assert_eq!(entries_of(&whole), [(0, end, 0)]);
 }
 
+/// Document 02, §4: "Strict body: 3; per group 2, 6, 2, 12, contents, 21, 13", each before the next,
+/// in a body whose first group is of the first edition; the second group stands at 52.
+#[test]
+fn another_edition_among_the_refusals() {
+    let first = group_bytes(b"A", &[record(5, &[], None)]);
+    let then = |next: &[u8]| strict(&[&first, next].concat());
+    let ctb2 = chunk(*b"Ctb2", second_record().bytes());
+    let named = |text: &[u8], children: &[u8]| {
+        let sdec = chunk(*b"Sdec", text);
+        chunk(*b"CSEG", &[&sdec, children].concat())
+    };
+    let unlike = named(b"A", &ctb2);
+    assert_eq!(
+        strict(&[&first[..], &unlike, &vec![0; 32_768]].concat()),
+        (3, 0)
+    );
+    assert_eq!(then(&unlike[..7]), (2, 52));
+    assert_eq!(then(&[b"XSEG", &unlike[4..]].concat()), (6, 52));
+    assert_eq!(then(&unlike[..unlike.len() - 1]), (2, 52));
+    assert_eq!(
+        then(&named(b"A", &[&ctb2, &b"Ctb2"[..]].concat())),
+        (2, 52 + 72)
+    );
+    assert_eq!(
+        then(&named(b"A", &[&ctb2, &ctab(&plain_record())[..]].concat())),
+        (6, 124)
+    );
+    assert_eq!(
+        then(&named(b"A", &[&ctb2, &b"Ctb2\0\0\0\x01"[..]].concat())),
+        (2, 124)
+    );
+    assert_eq!(
+        then(&named(b"A", &[&ctb2, &chunk(*b"Ctb2", b"")[..]].concat())),
+        (7, 124)
+    );
+    assert_eq!(then(&named(b"A,", &ctb2)), (8, 60));
+    let mut bad = second_record();
+    bad[39] = 6;
+    assert_eq!(
+        then(&named(b"A", &chunk(*b"Ctb2", bad.bytes()))),
+        (9, 52 + 25 + 39)
+    );
+    assert_eq!(then(&named(b"A", &[&ctb2[..], &ctb2].concat())), (10, 124));
+    assert_eq!(then(&unlike), (21, 52));
+    assert_eq!(then(&[&unlike[..], b"C"].concat()), (21, 52));
+    assert_eq!(then(&first), (13, 52));
+    let more = [many(31), unlike].concat();
+    assert_eq!(then(&more), (12, 52 + 31 * 18));
+}
+
 #[test]
 fn names_across_groups() {
     let bad = group_bytes(b"A", &[record(0, &[(10, 2)], None)]);
@@ -443,12 +490,57 @@ fn edits_in_order() {
     let mut expected = asked();
     expected[25 + 8] = b'y';
     for position in [0, 1, 2, 255] {
-        let mut new = record(5, &[(8, b'y')], Some(0xFF));
-        new.position = position;
+        let new = at_position(record(5, &[(8, b'y')], Some(0xFF)), position);
         let mut body = asked();
         assert_eq!(edit(&mut body, 0, 5, &new), Ok(()));
         assert_eq!(body, expected);
     }
+}
+
+/// "Edit: body's, 16, 15, 16, 21, 9" (document 02, §4), each before the next.
+#[test]
+fn another_edition_in_an_edit() {
+    let mut body = asked();
+    let of = |channel: u8, changes: &[(usize, u8)]| {
+        let mut record = second_record();
+        record[0] = channel;
+        for &(index, value) in changes {
+            record[index] = value;
+        }
+        record
+    };
+    let bad = [(22, 3), (9, 0)];
+    let last = body.len() - 1;
+    assert_eq!(no(edit(&mut body[..last], 9, 9, &of(4, &bad))), (2, 97));
+    assert_eq!(no(edit(&mut body, 2, 9, &of(4, &bad))), (16, 0));
+    assert_eq!(no(edit(&mut body, 0, 9, &of(4, &bad))), (15, 0));
+    assert_eq!(no(edit(&mut body, 0, 5, &of(4, &bad))), (16, 0));
+    assert_eq!(no(edit(&mut body, 0, 5, &of(5, &bad))), (21, 0));
+    assert_eq!(no(edit(&mut body, 0, 5, &of(5, &[]))), (21, 0));
+    assert_eq!(body, asked());
+}
+
+/// "Writing: 16, 8, per record 21, 9, 10; then 18, 14" (document 02, §4), each before the next.
+#[test]
+fn another_edition_in_writing() {
+    let write = |text: &[u8], table: &[Record], count: u32, room: usize| {
+        no(write_group(text, table, count, &mut vec![0; room]))
+    };
+    let wrong = positioned(1, None, 9);
+    let mut bad = second_record();
+    bad[0] = 16;
+    let unlike = second_record();
+    assert_eq!(write(b"", &[wrong, bad], 3, 0), (16, 0));
+    assert_eq!(write(b"", &[wrong, bad], 2, 0), (8, 0));
+    assert_eq!(write(b"A", &[wrong, bad], 2, 0), (21, 27));
+    assert_eq!(write(b"A", &[wrong, wrong, bad], 3, 0), (10, 27));
+    assert_eq!(write(b"A", &[wrong, unlike, wrong], 3, 0), (21, 27));
+    assert_eq!(write(b"A", &[unlike, wrong, bad], 3, 0), (21, 47));
+    assert_eq!(write(b"A", &[unlike, bad, wrong], 3, 0), (9, 47));
+    assert_eq!(write(b"A", &[unlike, unlike, wrong], 3, 0), (10, 47));
+    assert_eq!(write(b"A", &[wrong, bad], 1, 0), (18, 0));
+    assert_eq!(write(b"A", &[unlike, wrong], 1, 71), (14, 0));
+    assert_eq!(write(b"A", &[unlike, wrong], 1, 72), (0, 0));
 }
 
 #[test]
@@ -589,10 +681,7 @@ fn wrong_positions_among_the_refusals() {
         no(write_group(text, table, count, &mut vec![0; room]))
     };
     let wrong = positioned(1, Some(4), 2);
-    let bad = Record {
-        position: 7,
-        ..record(2, &[(9, 0)], None)
-    };
+    let bad = at_position(record(2, &[(9, 0)], None), 7);
     let bad_cntt = positioned(2, Some(5), 1);
     let again = positioned(1, Some(6), 1);
     assert_eq!(write(b"", &[wrong], 2, 0), (16, 0));
@@ -613,11 +702,11 @@ fn wrong_positions_among_the_refusals() {
 
 #[test]
 fn the_screen_judges_the_set_value_alone() {
-    let broken = Record {
+    let broken = Record::First(First {
         bytes: [0xEE; 26],
         second_table: Some(0xEE),
         position: 0xEE,
-    };
+    });
     let mut kept = broken;
     assert_eq!(no(set_field(&mut kept, 26, 0xFF)), (16, 0));
     assert_eq!(no(set_field(&mut kept, u32::MAX, 0)), (16, 0));
@@ -627,8 +716,8 @@ fn the_screen_judges_the_set_value_alone() {
     assert_eq!(set_field(&mut kept, 21, 5), Ok(()));
     assert_eq!(set_field(&mut kept, 0, 15), Ok(()));
     let mut expected = broken;
-    expected.bytes[21] = 5;
-    expected.bytes[0] = 15;
+    expected[21] = 5;
+    expected[0] = 15;
     assert_eq!(kept, expected);
 }
 

@@ -113,3 +113,44 @@ fn style_files_reach_each_kind_of_answer() {
     });
     assert!(damaged.count() > 20, "sound groups beside damaged ones");
 }
+
+/// The tags of the first records of the sound groups that a file lists, and whether it lists damage.
+fn listed_editions(file: &[u8]) -> Option<(bool, bool, bool)> {
+    let text = second::list::list(file);
+    let mut lines = text.lines();
+    let mut casm = lines.next()?.strip_prefix("casm ")?.split(' ');
+    let body = &file[casm.next()?.parse::<usize>().ok()? + 8..];
+    let (mut first, mut second, mut damaged) = (false, false, false);
+    for line in lines {
+        let entry: Vec<usize> = line
+            .split(' ')
+            .filter_map(|word| word.parse().ok())
+            .collect();
+        if let [place, _, kind] = entry[..] {
+            let behind_text = place + 16 + usize::from(body[(place + 15).min(body.len() - 1)]);
+            let record = body.get(behind_text..behind_text + 4);
+            first |= kind == 0 && record == Some(b"Ctab");
+            second |= kind == 0 && record == Some(b"Ctb2");
+            damaged |= kind != 0;
+        }
+    }
+    Some((first, second, damaged))
+}
+
+/// Files with groups of each edition alone and of both, sound and beside damage.
+#[test]
+fn style_files_hold_both_editions() {
+    let files = second::gen::styles::style_files(9, 320);
+    let reached: Vec<_> = files
+        .iter()
+        .filter_map(|file| listed_editions(file))
+        .collect();
+    for (first, second) in [(true, false), (false, true), (true, true)] {
+        for damaged in [false, true] {
+            let like = reached
+                .iter()
+                .filter(|&&kind| kind == (first, second, damaged));
+            assert!(like.count() > 1, "{first} {second} {damaged}");
+        }
+    }
+}

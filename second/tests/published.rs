@@ -21,8 +21,8 @@ fn chord(record: &Record, root: u8, notes: [u8; 3]) -> [u8; 3] {
 #[test]
 fn note_limits_of_5_2_6() {
     let mut record = plain_record();
-    record.bytes[23] = 60;
-    record.bytes[24] = 74;
+    record[23] = 60;
+    record[24] = 74;
     let notes = [64, 67, 72];
     assert_eq!(chord(&record, 0, notes), [64, 67, 72]);
     assert_eq!(chord(&record, 1, notes), [65, 68, 73]);
@@ -32,7 +32,7 @@ fn note_limits_of_5_2_6() {
 #[test]
 fn high_key_of_5_2_7() {
     let mut record = plain_record();
-    record.bytes[22] = 5;
+    record[22] = 5;
     let notes = [60, 64, 67];
     assert_eq!(chord(&record, 0, notes), [60, 64, 67]);
     assert_eq!(chord(&record, 1, notes), [61, 65, 68]);
@@ -49,7 +49,7 @@ fn root_transposition_of_001() {
 #[test]
 fn root_fixed_is_17() {
     let mut record = plain_record();
-    record.bytes[20] = 1;
+    record[20] = 1;
     let refusal = Refusal {
         number: 17,
         place: 0,

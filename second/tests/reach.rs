@@ -1,21 +1,23 @@
-//! What the generator must reach: every (verb, answer) pair that document 01 with requests §1 and
-//! §3 of document 02 allows and no other, for find and body every number at every kind of place,
-//! in writing every kind of right and wrong positions, and in placing every kind of limits.
+//! What the generator must reach: every (verb, answer) pair that document 01 with requests §1, §3
+//! and §4 of document 02 allows and no other, for find and body every number at every kind of
+//! place, in writing every kind of right and wrong positions, and in placing every kind of limits.
 
 mod common;
 
-use common::chunks::{groups, names, of_tag};
+use common::chunks::{edition, groups, names, of_tag, records};
 use common::note_kinds::{note_kinds, Asked, OF_ALL, OF_NEAREST};
 use common::place_kinds::{behind_another_order, body_kind, file_kind};
 use second::body::read_body;
 use second::calls::answer;
+use second::edition::Edition;
+use second::gen::cntts::{has_cntt, position};
 use second::gen::{generate, verb_of, Outcome, Script};
 use second::record::Record;
 use second::script::{bytes, number, record, tokens};
 use std::collections::{BTreeMap, BTreeSet};
 
 /// The refusals of a strict body, which come first in every call on one.
-const BODY: [u8; 10] = [2, 3, 6, 7, 8, 9, 10, 11, 12, 13];
+const BODY: [u8; 11] = [2, 3, 6, 7, 8, 9, 10, 11, 12, 13, 21];
 
 /// The refusals that the documents allow each verb, beside `ok` and `bad`.
 fn allowed_numbers(verb: &str) -> Vec<u8> {
@@ -28,7 +30,7 @@ fn allowed_numbers(verb: &str) -> Vec<u8> {
         "part" => with_body(&[15]),
         "where" => with_body(&[16]),
         "place" => vec![9, 16, 17],
-        "write" => vec![8, 9, 10, 14, 16, 18],
+        "write" => vec![8, 9, 10, 14, 16, 18, 21],
         "screen" => vec![9, 16],
         "salvage" => vec![3, 14],
         _ => panic!("no such verb: {verb}"),
@@ -66,7 +68,7 @@ fn every_allowed_answer_and_no_other() {
 
 #[test]
 fn short_scripts_reach_a_lot() {
-    let table = generate(5, 4_000, &[], std::io::sink()).unwrap();
+    let table = generate(5, 5_000, &[], std::io::sink()).unwrap();
     let reached: BTreeSet<_> = table.keys().copied().collect();
     let missing: Vec<_> = allowed().difference(&reached).copied().collect();
     assert!(missing.is_empty(), "{missing:?}");
@@ -119,8 +121,8 @@ fn find_reaches_every_kind_of_place() {
     assert_eq!(reached, expected);
 }
 
-/// The kinds of places of a strict body, beside the bytes of a Ctab.
-const BODY_KINDS: [&str; 43] = [
+/// The kinds of places of a strict body, beside the bytes of a Ctab and of a Ctb2.
+const BODY_KINDS: [&str; 56] = [
     "2 group header cut",
     "2 group length past the body",
     "2 header cut after CSEG",
@@ -164,10 +166,29 @@ const BODY_KINDS: [&str; 43] = [
     "9 Ctab byte 9 below",
     "9 Cntt value 05",
     "9 Cntt value 8B",
+    "2 header cut after Ctb2",
+    "2 Ctb2 past the group",
+    "6 Ctb2 after CSEG",
+    "6 Ctb2 after Ctab",
+    "6 Ctb2 after Cntt",
+    "6 Ctab after Ctb2",
+    "6 Cntt after Ctb2",
+    "6 Sdec after Ctb2",
+    "6 CSEG after Ctb2",
+    "6 other after Ctb2",
+    "7 Ctb2",
+    "9 Ctb2 byte 9 below",
+    "10 Ctb2",
 ];
 
 /// The byte indices of the 27 that have a range.
 const RANGED: [usize; 14] = [0, 9, 10, 11, 13, 18, 19, 20, 21, 22, 23, 24, 25, 26];
+
+/// The byte indices of the 47 that have a range, and the three that a rule decides.
+const CTB2_RANGED: [usize; 24] = [
+    0, 9, 10, 11, 13, 18, 19, 20, 21, 22, 24, 25, 26, 27, 28, 30, 31, 32, 33, 34, 36, 37, 38, 39,
+];
+const CTB2_TABLES: [usize; 3] = [23, 29, 35];
 
 /// Every (number, kind of place) of a strict body, and whether the first group can have it.
 fn body_kinds() -> BTreeMap<String, bool> {
@@ -178,14 +199,28 @@ fn body_kinds() -> BTreeMap<String, bool> {
     for index in RANGED {
         kinds.insert(format!("9 Ctab byte {index} above"), true);
     }
+    for index in CTB2_RANGED {
+        kinds.insert(format!("9 Ctb2 byte {index} above"), true);
+    }
+    for index in CTB2_TABLES {
+        for rule in [
+            "rule 0",
+            "rule 1, bass",
+            "rule 2 alone",
+            "rule 2 alone, bass",
+        ] {
+            kinds.insert(format!("9 Ctb2 byte {index}, {rule}"), true);
+        }
+    }
     kinds.insert("13 name of an earlier group".to_string(), false);
+    kinds.insert("21 another edition".to_string(), false);
     kinds
 }
 
 #[test]
 fn body_reaches_every_kind_of_place_in_every_group() {
     let mut reached: BTreeSet<(String, usize)> = BTreeSet::new();
-    for (body, number, place) in refusals("body", 4, 1_300) {
+    for (body, number, place) in refusals("body", 4, 2_000) {
         let (kind, group) = body_kind(&body, number, place);
         reached.insert((kind, group.min(2)));
     }
@@ -203,7 +238,7 @@ fn body_reaches_every_kind_of_place_in_every_group() {
 /// The catalogue and the families alone reach each kind somewhere.
 #[test]
 fn body_reaches_every_kind_early() {
-    let reached: BTreeSet<String> = refusals("body", 9, 1_300)
+    let reached: BTreeSet<String> = refusals("body", 9, 2_000)
         .iter()
         .map(|(body, number, place)| body_kind(body, *number, *place).0)
         .collect();
@@ -252,7 +287,7 @@ fn bodies_reach_what_stands_behind_another_order() {
         "body", "group", "voice", "plays", "edit", "where", "channel",
     ] {
         let mut reached = BTreeSet::new();
-        for (body, number, place) in refusals(verb, 17, 1_400) {
+        for (body, number, place) in refusals(verb, 17, 1_700) {
             if read_body(&body).is_err() {
                 let (kind, _) = body_kind(&body, number, place);
                 reached.insert((kind, behind_another_order(&body, place)));
@@ -274,9 +309,8 @@ fn positions(line: &[u8]) -> Option<(Vec<u8>, Vec<u8>)> {
     let words = tokens(line).filter(|words| words.len() > 3)?;
     let count = number(words[2])? as usize;
     let judged: Option<Vec<Record>> = words[4..].get(..count)?.iter().map(|r| record(r)).collect();
-    let (with, without): (Vec<Record>, Vec<Record>) =
-        judged?.into_iter().partition(|r| r.second_table.is_some());
-    let of = |records: Vec<Record>| records.iter().map(|record| record.position).collect();
+    let (with, without): (Vec<Record>, Vec<Record>) = judged?.iter().partition(|r| has_cntt(r));
+    let of = |records: Vec<Record>| records.iter().map(position).collect();
     Some((of(with), of(without)))
 }
 
@@ -352,7 +386,7 @@ fn right_kinds(with: &[u8], without: &[u8]) -> Vec<&'static str> {
 #[test]
 fn write_reaches_every_kind_of_positions() {
     let mut reached: BTreeMap<String, usize> = BTreeMap::new();
-    for line in Script::new(18, &["write"]).take(6_000) {
+    for line in Script::new(18, &["write"]).take(9_000) {
         let told = answer(&line);
         let told: Vec<&str> = told.split(' ').collect();
         let Some((with, without)) = positions(&line).filter(|_| told[0] != "bad") else {
@@ -410,9 +444,17 @@ fn write_reaches_every_kind_of_positions() {
     assert!(!reached.contains_key("wrong, refused 14"), "{reached:?}");
 }
 
+/// Whether all RECs are of the first edition.
+fn of_first_edition(records: &[&[u8]]) -> bool {
+    let edition = |rec: &&[u8]| record(rec).map(|record| record.edition());
+    records
+        .iter()
+        .all(|rec| edition(rec) == Some(Edition::First))
+}
+
 /// Whether a record's position is wrong whatever the others have.
 fn wrong_alone(record: &Record) -> bool {
-    record.position > 16 || record.second_table.is_some() != (record.position > 0)
+    position(record) > 16 || has_cntt(record) != (position(record) > 0)
 }
 
 /// Which meeting of wrong positions with something else a `write` line is, by its answer.
@@ -425,7 +467,7 @@ fn meetings_of_18(words: &[&[u8]], told: &[&str]) -> Vec<String> {
     match (told[0], told[1]) {
         ("ok", _) if any(beyond) => meetings.push("ok, wrong past the count".to_string()),
         ("refused", "18") => {
-            let cntts = judged.iter().filter(|r| r.second_table.is_some()).count();
+            let cntts = judged.iter().filter(|r| has_cntt(r)).count();
             let length = 16 + bytes(words[1]).unwrap().len() + 35 * count + 10 * cntts;
             let short = (number(words[3]).unwrap() as usize) < length;
             meetings.push(if short { "18 and 14" } else { "18" }.to_string());
@@ -450,11 +492,12 @@ fn meetings_of_18(words: &[&[u8]], told: &[&str]) -> Vec<String> {
 #[test]
 fn write_reaches_every_meeting_of_18() {
     let mut reached = BTreeSet::new();
-    for line in Script::new(19, &["write"]).take(1_200) {
+    for line in Script::new(19, &["write"]).take(1_700) {
         let told = answer(&line);
         let told: Vec<&str> = told.split(' ').collect();
-        if told[0] != "bad" {
-            reached.extend(meetings_of_18(&tokens(&line).unwrap(), &told));
+        let words = tokens(&line).unwrap_or_default();
+        if told[0] != "bad" && of_first_edition(&words[4..]) {
+            reached.extend(meetings_of_18(&words, &told));
         }
     }
     let wanted = [
@@ -477,10 +520,10 @@ fn write_reaches_every_meeting_of_18() {
 fn positions_of_the_other_verbs() {
     for (verb, spot) in [("place", 1), ("edit", 4), ("screen", 1)] {
         let mut reached = BTreeSet::new();
-        for line in Script::new(20, &[verb]).take(3_000) {
+        for line in Script::new(20, &[verb]).take(5_000) {
             if answer(&line).starts_with("ok") {
                 let given = record(tokens(&line).unwrap()[spot]).unwrap();
-                reached.insert((given.second_table.is_some(), given.position));
+                reached.insert((has_cntt(&given), position(&given)));
             }
         }
         for position in [0, 1, 2, 3, 15, 16, 17, 128, 238, 255] {
@@ -490,12 +533,12 @@ fn positions_of_the_other_verbs() {
         }
     }
     let mut printed = 0;
-    for line in Script::new(20, &["group"]).take(3_000) {
+    for line in Script::new(20, &["group"]).take(5_000) {
         let told = answer(&line);
         let records = told.split(' ').filter_map(|word| record(word.as_bytes()));
         let positions: Vec<u8> = records
-            .filter(|record| record.second_table.is_some())
-            .map(|record| record.position)
+            .filter(has_cntt)
+            .map(|record| position(&record))
             .collect();
         printed += usize::from(!positions.is_sorted());
     }
@@ -564,24 +607,29 @@ fn place_reaches_every_kind_of_limits() {
     }
 }
 
-/// Refusal places of the verbs on records: every byte index that has a range.
+/// Refusal places of the verbs on records: every byte index that has a range, of both editions.
 #[test]
 fn record_verbs_reach_every_byte() {
-    for verb in ["place", "screen", "write", "edit"] {
+    for (verb, spot) in [("place", 1), ("screen", 1), ("write", 4), ("edit", 4)] {
         let mut reached = BTreeSet::new();
-        for line in Script::new(6, &[verb]).take(900) {
+        for line in Script::new(6, &[verb]).take(1_700) {
             let answered = answer(&line);
             let mut words = answered.split(' ');
             if words.next() == Some("refused") && words.next() == Some("9") {
-                reached.insert(words.next().unwrap().parse::<usize>().unwrap());
+                let place = words.next().unwrap().parse::<usize>().unwrap();
+                let size = record(tokens(&line).unwrap()[spot]).map(|r| r.edition().size());
+                reached.insert((size, place));
             }
         }
+        let tables = [&CTB2_RANGED[..], &CTB2_TABLES].concat();
         let records = if verb == "write" { 3 } else { 1 };
-        for record in 0..records {
-            for index in &RANGED[..13] {
-                let possible = verb != "edit" || *index != 0;
-                let got = reached.contains(&(27 * record + index));
-                assert_eq!(got, possible, "{verb} {record} {index}");
+        for (size, ranged) in [(27, &RANGED[..13]), (47, &tables)] {
+            for record in 0..records {
+                for index in ranged {
+                    let possible = verb != "edit" || *index != 0;
+                    let got = reached.contains(&(Some(size), size * record + index));
+                    assert_eq!(got, possible, "{verb} {size} {record} {index}");
+                }
             }
         }
     }
@@ -597,12 +645,14 @@ fn which(number: usize, count: usize) -> &'static str {
     }
 }
 
-/// How many of a group's Ctabs there are, and how many of them have a Cntt.
-fn shape(ctabs: usize, cntts: usize) -> &'static str {
-    match (ctabs, cntts) {
-        (0, _) => "no Ctab",
-        (_, 0) => "Ctabs, no Cntt",
-        _ if ctabs == cntts => "Ctabs, a Cntt each",
+/// Which records a group has, and how many of them have a Cntt.
+fn shape(edition: usize, records: usize, cntts: usize) -> &'static str {
+    match (edition, records, cntts) {
+        (0, ..) => "no record",
+        (2, 1, _) => "a Ctb2",
+        (2, ..) => "Ctb2s",
+        (_, _, 0) => "Ctabs, no Cntt",
+        _ if records == cntts => "Ctabs, a Cntt each",
         _ => "Ctabs, some Cntts",
     }
 }
@@ -630,9 +680,8 @@ fn lookup_kind(verb: &str, words: &[&[u8]], answered: &[&str]) -> String {
         return match (answered[1], verb) {
             ("15", "part") => no_part(&bytes(words[2]).unwrap()).to_string(),
             ("15", _) => {
-                let ctabs = of_tag(&groups[asked].1, b"Ctab").len();
                 let channel = number(words[3]).unwrap();
-                let some = if ctabs == 0 { "no Ctab" } else { "other Ctabs" };
+                let some = ["no record", "other Ctabs", "other Ctb2s"][edition(&groups[asked].1)];
                 format!("15, {some}, {}", channel.clamp(15, 17))
             }
             _ if groups.is_empty() => "16, no group".to_string(),
@@ -640,10 +689,7 @@ fn lookup_kind(verb: &str, words: &[&[u8]], answered: &[&str]) -> String {
         };
     }
     let children = &groups[group].1;
-    let (ctabs, cntts) = (
-        of_tag(children, b"Ctab").len(),
-        of_tag(children, b"Cntt").len(),
-    );
+    let cntts = of_tag(children, b"Cntt").len();
     let own = match verb {
         "part" => {
             let part = bytes(words[2]).unwrap();
@@ -651,21 +697,35 @@ fn lookup_kind(verb: &str, words: &[&[u8]], answered: &[&str]) -> String {
             let number = names.iter().position(|&name| name == part).unwrap();
             which(number, names.len())
         }
-        "where" => shape(ctabs, cntts),
-        _ => which(number_of(1), ctabs),
+        "where" => shape(edition(children), records(children).len(), cntts),
+        _ => which(number_of(1), records(children).len()),
     };
-    format!("{} group, {own}", which(group, groups.len()))
+    let of_second = verb == "channel" && edition(children) == 2;
+    let tail = if of_second { " of Ctb2s" } else { "" };
+    format!("{} group, {own}{tail}", which(group, groups.len()))
 }
 
 /// The kinds of answer of a lookup: in the only, the first, a middle and the last group, each of
 /// these; and the refusals that come after the body's.
 fn lookup_kinds(verb: &str) -> BTreeSet<String> {
-    let shapes = [(0, 0), (1, 0), (2, 1), (1, 1)].map(|(ctabs, cntts)| shape(ctabs, cntts));
+    let shapes = [
+        (0, 0, 0),
+        (1, 1, 0),
+        (1, 2, 1),
+        (1, 1, 1),
+        (2, 1, 0),
+        (2, 3, 0),
+    ];
+    let shapes = shapes.map(|(edition, records, cntts)| shape(edition, records, cntts));
     let four = ["only", "first", "middle", "last"];
     let mut kinds = BTreeSet::new();
     for group in four {
-        for own in if verb == "where" { shapes } else { four } {
+        let own = if verb == "where" { &shapes[..] } else { &four };
+        for own in own {
             kinds.insert(format!("{group} group, {own}"));
+            if verb == "channel" {
+                kinds.insert(format!("{group} group, {own} of Ctb2s"));
+            }
         }
     }
     let no_parts = [
@@ -683,8 +743,9 @@ fn lookup_kinds(verb: &str) -> BTreeSet<String> {
     }
     if verb == "channel" {
         for channel in [15, 16, 17] {
-            kinds.insert(format!("15, no Ctab, {channel}"));
+            kinds.insert(format!("15, no record, {channel}"));
             kinds.insert(format!("15, other Ctabs, {channel}"));
+            kinds.insert(format!("15, other Ctb2s, {channel}"));
         }
     }
     kinds
@@ -694,7 +755,7 @@ fn lookup_kinds(verb: &str) -> BTreeSet<String> {
 fn lookups_reach_every_kind() {
     for verb in ["part", "where", "channel"] {
         let mut reached = BTreeSet::new();
-        for line in Script::new(16, &[verb]).take(1_200) {
+        for line in Script::new(16, &[verb]).take(1_700) {
             let told = answer(&line);
             let told: Vec<&str> = told.split(' ').collect();
             if told[0] == "ok" || (told[0] == "refused" && matches!(told[1], "15" | "16")) {
@@ -762,7 +823,7 @@ fn named_verbs_only() {
 fn the_mixture_begins_soon() {
     for verb in VERBS {
         let lines = Script::new(13, &[verb]).before_mixture();
-        assert!((200..1_500).contains(&lines), "{verb} {lines}");
+        assert!((200..2_000).contains(&lines), "{verb} {lines}");
     }
 }
 

@@ -1,6 +1,8 @@
 //! The request's third demand "for any choice of groups replaced at once", and the bytes of each
-//! entry by itself (document 02, §10), on generated bodies.
+//! entry by itself (document 02, §10), on generated bodies; their groups are of both editions, since
+//! "The salvage list takes each group by itself, so it may show both" (document 02, §4).
 
+use second::edition::Edition;
 use second::gen::dice::Dice;
 use second::gen::draft::Draft;
 use second::gen::sound;
@@ -46,16 +48,32 @@ const TEXTS: [&str; 8] = [
     "Fill In AA",
 ];
 
-/// A sound group with the letters CSEG nowhere but at its start.
+/// A sound group of either edition with the letters CSEG nowhere but at its start.
 fn group(dice: &mut Dice) -> Vec<u8> {
     loop {
         let text = dice.pick(&TEXTS);
         let count = dice.pick(&[0, 0, 0, 1, 2]);
-        let group = Draft::new(text.as_bytes(), &sound::records(dice, count)).bytes();
+        let edition = dice.pick(&[Edition::First, Edition::Second]);
+        let records = sound::records_of(dice, edition, count);
+        let group = Draft::new(text.as_bytes(), &records).bytes();
         if csegs(&group) == [0] {
             return group;
         }
     }
+}
+
+/// Whether a list has groups of this edition, by the tag behind each one's Sdec.
+fn has(body: &[u8], listed: &[Listed], tag: &[u8; 4]) -> bool {
+    let sound = listed.iter().filter(|entry| entry.2 == 0);
+    sound.map(|entry| entry.0).any(|place| {
+        let text = usize::from(body[place + 15]);
+        body[place + 16 + text..].starts_with(tag)
+    })
+}
+
+/// Whether a list shows groups of both editions.
+fn both(body: &[u8], listed: &[Listed]) -> bool {
+    has(body, listed, b"Ctab") && has(body, listed, b"Ctb2")
 }
 
 fn noise(dice: &mut Dice, most: usize) -> Vec<u8> {
@@ -217,6 +235,14 @@ fn damage_stays_local_for_any_choice_of_groups() {
         let all = 0..runs.len();
         count("taken", true);
         count("no group replaced", runs.is_empty());
+        count(
+            "standing groups of both editions",
+            both(after, &case.standing),
+        );
+        count(
+            "both editions, one of them in new bytes alone",
+            both(after, &list(after)) && !both(after, &case.standing),
+        );
         count("one run", runs.len() == 1);
         count("two runs", runs.len() == 2);
         count("three runs or more", runs.len() > 2);
@@ -259,7 +285,7 @@ fn damage_stays_local_for_any_choice_of_groups() {
             each_by_itself(&case) != expected(&case),
         );
     }
-    assert_eq!(seen.len(), 19);
+    assert_eq!(seen.len(), 21);
     assert!(seen.values().all(|&count| count > 50), "{seen:#?}");
     assert!(seen["taken"] > 8_000, "{seen:#?}");
 }

@@ -6,9 +6,10 @@ mod common;
 use common::{at_positions, entries_of, m, plain_record};
 use second::body::{read_body, read_group};
 use second::edit::edit;
+use second::gen::cntts::{at_position, position, with_cntt};
 use second::place::place_note;
 use second::plays::who_plays;
-use second::record::Record;
+use second::record::{First, Record};
 use second::style::find;
 use second::voice::voice_name;
 use second::write::{chunk, group_bytes, write_group};
@@ -22,14 +23,14 @@ fn number_of(body: &[u8]) -> (u8, usize) {
 
 /// A plain record with every byte different from the plain ones where its range allows it.
 fn other_record() -> Record {
-    Record {
+    Record::First(First {
         bytes: [
             3, b'O', b't', b'h', b'e', b'r', b' ', b' ', b'!', 0x0F, 1, 0x0A, 0x55, 0x06, 1, 2, 3,
             4, 11, 0x21, 1, 5, 7, 9, 8, 5,
         ],
         second_table: Some(0x80),
         position: 1,
-    }
+    })
 }
 
 #[test]
@@ -58,7 +59,7 @@ fn lengths_with_high_bytes() {
 
 #[test]
 fn own_lengths() {
-    let ctab = [&plain_record().bytes[..], &[0, 0]].concat();
+    let ctab = [plain_record().bytes(), &[0, 0]].concat();
     let with = |child: &[u8]| {
         let ctab = chunk(*b"Ctab", &ctab[..27]);
         number_of(&chunk(
@@ -90,7 +91,7 @@ fn voice_names() {
     ];
     for (held, shown) in names {
         let mut record = plain_record();
-        record.bytes[1..9].copy_from_slice(held);
+        record[1..9].copy_from_slice(held);
         let body = [m(), group_bytes(b"B", &[other_but(1), record])].concat();
         assert_eq!(voice_name(&body, 1, 3), Ok(shown));
     }
@@ -99,7 +100,7 @@ fn voice_names() {
 /// The other record with another source channel.
 fn other_but(channel: u8) -> Record {
     let mut record = other_record();
-    record.bytes[0] = channel;
+    record[0] = channel;
     record
 }
 
@@ -107,7 +108,7 @@ fn other_but(channel: u8) -> Record {
 fn every_type_alone() {
     for bit in 0..35u64 {
         let mut record = plain_record();
-        record.bytes[13..18].copy_from_slice(&(1u64 << bit).to_be_bytes()[3..]);
+        record[13..18].copy_from_slice(&(1u64 << bit).to_be_bytes()[3..]);
         let body = group_bytes(b"A", &[record]);
         for chord_type in 0..34u8 {
             let expected = if bit == u64::from(chord_type) {
@@ -124,10 +125,9 @@ fn every_type_alone() {
 fn every_table_under_both_rules() {
     let answer = |rule: u8, table: u8, cntt: Option<u8>| {
         let mut record = plain_record();
-        record.bytes[20] = rule;
-        record.bytes[21] = table;
-        record.second_table = cntt;
-        place_note(&record, 4, 60).map_err(|refusal| refusal.number)
+        record[20] = rule;
+        record[21] = table;
+        place_note(&with_cntt(record, cntt), 4, 60).map_err(|refusal| refusal.number)
     };
     assert_eq!(answer(0, 0, None), Ok(60));
     assert_eq!(answer(1, 0, None), Ok(60));
@@ -177,7 +177,7 @@ fn whole_records() {
     assert_eq!(buffer[87..], *b"Cntt\0\0\0\x02\x01\x80");
     let mut edited = body.clone();
     assert_eq!(edit(&mut edited, 0, 3, &other_record()), Ok(()));
-    assert_eq!(edited[25..51], other_record().bytes);
+    assert_eq!(&edited[25..51], other_record().bytes());
     assert_eq!(edited[51..], body[51..]);
     assert_eq!(edited[..25], body[..25]);
 }
@@ -207,12 +207,7 @@ fn every_order_of_three_cntts() {
     let channels = [9, 8, 12];
     let ctabs: Vec<u8> = channels
         .iter()
-        .flat_map(|&channel| {
-            chunk(
-                *b"Ctab",
-                &[&other_but(channel).bytes[..], &[0][..]].concat(),
-            )
-        })
+        .flat_map(|&channel| chunk(*b"Ctab", &[other_but(channel).bytes(), &[0]].concat()))
         .collect();
     for order in [
         [0, 1, 2],
@@ -233,9 +228,8 @@ fn every_order_of_three_cntts() {
         let mut table = [plain_record(); 3];
         assert_eq!(read_group(&body, 0, &mut table), Ok((3, &b"A"[..])));
         for (number, &row) in order.iter().enumerate() {
-            let mut expected = other_but(channels[row]);
-            expected.second_table = Some(0x80 + row as u8);
-            expected.position = number as u8 + 1;
+            let expected = with_cntt(other_but(channels[row]), Some(0x80 + row as u8));
+            let expected = at_position(expected, number as u8 + 1);
             assert_eq!(table[row], expected, "{order:?}");
         }
         let mut buffer = vec![0; body.len()];
@@ -248,20 +242,15 @@ fn every_order_of_three_cntts() {
 /// Records without a Cntt have position 0 and take no number.
 #[test]
 fn positions_count_cntts_alone() {
-    let ctabs = [4, 7, 2, 11].map(|channel| {
-        let record = Record {
-            second_table: None,
-            ..other_but(channel)
-        };
-        chunk(*b"Ctab", &[&record.bytes[..], &[0]].concat())
-    });
+    let ctabs =
+        [4, 7, 2, 11].map(|channel| chunk(*b"Ctab", &[other_but(channel).bytes(), &[0]].concat()));
     let cntts = [chunk(*b"Cntt", &[11, 6]), chunk(*b"Cntt", &[7, 4])];
     let sdec = chunk(*b"Sdec", b"A");
     let body = chunk(*b"CSEG", &[sdec, ctabs.concat(), cntts.concat()].concat());
     let mut table = [plain_record(); 5];
-    table[4].position = 77;
+    table[4] = at_position(table[4], 77);
     assert_eq!(read_group(&body, 0, &mut table), Ok((4, &b"A"[..])));
-    assert_eq!(table.map(|record| record.position), [0, 2, 0, 1, 77]);
-    let values = table.map(|record| record.second_table);
+    assert_eq!(table.map(|record| position(&record)), [0, 2, 0, 1, 77]);
+    let values = table.map(|record| record.second_table());
     assert_eq!(values, [None, Some(4), None, Some(6), None]);
 }

@@ -1,58 +1,38 @@
 // Placing a note by chord root (document 01, "Placing a note"; document 02, §3): signed arithmetic, octave folding by remainders below zero.
+pub mod choose;
+
 ghost use mathlib.Core.Path.{_≡_};
-ghost use mathlib.Core.Bool.{false};
 ghost use Prim.Native.Nat.{_<_};
 ghost use lib.IntN.{pos};
 ghost use lib.Signed.{mag};
 ghost use Rattle.layout.specs.Answers.{refused, granted};
-ghost use Rattle.layout.specs.Place.{noteCount, effective, bypass, shift, folded, nearest, heard, placed};
+ghost use Rattle.layout.specs.Place.{noteCount, shift, folded, nearest, heard, placed};
 ghost use Rattle.layout.specs.Promises.{NotePlaced};
 ghost use Rattle.ask_place.specs.Octaves.{remainder};
+use crate::choose::is_bypass;
+use crate::choose::is_fixed;
+use crate::choose::set_for;
+use crate::choose::table_for;
 use layout::answer::Placed;
 use layout::limit::NOTE;
 use layout::limit::ROOT;
 use layout::record::Record;
-use layout::record::SecondTable;
 use layout::refusal::BAD_NUMBER;
 use layout::refusal::OUT_OF_RANGE;
 use layout::refusal::ROOT_FIXED;
-use layout::size::HELD;
+use read_record::edition::held_of;
+use read_record::held::edition_of;
+use read_record::held::first_bad;
 
-// The effective table: the Cntt value if present; else 00, 01, 02, 03, 04, 05 become 00, 01, 02, 81, 03, 05 (H).
-fn effective_table(second: SecondTable, table: u8) -> u8
-    requires { ⌜ table < 6 ⌝ }
-    ensures { λ t. ⌜ t ≡ effective second table ⌝ }
-{
-    match second {
-        SecondTable::Value(v) => v,
-        SecondTable::Absent => {
-            let becomes = [0x00, 0x01, 0x02, 0x81, 0x03, 0x05];
-            becomes[table as usize]
-        }
-    }
-}
-
-// Whether the effective table is 00 or 80, so that the shift is 0 under either rule.
-fn is_bypass(r: Record) -> bool
-    requires { ⌜ r .table < 6 ⌝ }
-    ensures { λ b. ⌜ b ≡ bypass r ⌝ }
-{
-    let second = r.second;
-    let table = effective_table(second, r.table);
-    if table == 0x00 {
-        return true;
-    }
-    table == 0x80
-}
-
-// The shift with no bypass: chord root minus source root, less 12 when the chord root is above the high key.
-fn shift_to(r: Record, root: u8) -> i32
-    requires { ⌜ bypass r ≡ false ⌝ }
-    ensures value { λ s. ⌜ s ≡ shift r root ⌝ }
+// The shift: 0 under bypass, else chord root minus source root, less 12 when the chord root is above the high key.
+fn shift_to(table: u8, key: u8, from: u8, root: u8) -> i32
+    ensures value { λ s. ⌜ s ≡ shift table key from root ⌝ }
     ensures near { λ s. ⌜ mag s < 1024 ⌝ }
 {
-    let key = r.key;
-    let shift = (root as i32) - (r.root as i32);
+    if is_bypass(table) {
+        return 0;
+    }
+    let shift = (root as i32) - (from as i32);
     if key < root {
         return shift - 12;
     }
@@ -153,18 +133,16 @@ pub fn place_note(r: Record, root: u8, note: u8) -> Placed
     if NOTE < note {
         return refusal(BAD_NUMBER, 0);
     }
-    let bad = read_record::held::first_bad(r);
-    if bad < HELD {
+    let bad = first_bad(r);
+    if bad < held_of(edition_of(r)) {
         return refusal(OUT_OF_RANGE, bad);
     }
-    let low = r.low;
-    let high = r.high;
-    if is_bypass(r) {
-        return told(hear(note as i32, low, high));
-    }
-    if r.rule == 1 {
+    let form = r.form;
+    let set = set_for(form, note);
+    let table = table_for(r, note);
+    if is_fixed(set.rule, table) {
         return refusal(ROOT_FIXED, 0);
     }
-    let shift = shift_to(r, root);
-    told(hear((note as i32) + shift, low, high))
+    let shift = shift_to(table, set.key, r.root, root);
+    told(hear((note as i32) + shift, set.low, set.high))
 }

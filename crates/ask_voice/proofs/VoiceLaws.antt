@@ -6,9 +6,11 @@ use mathlib.Core.List.{List, [], _∷_, _++_}
 use lib.ListN.{length, getD, take, drop, length-take, length-drop}
 use lib.Seq.{take-suc, take-take, length-take-le, getD-drop}
 use Rattle.layout.specs.declared.answer.Spanned.{Spanned}
+use Rattle.layout.specs.declared.edition.Edition.{Edition}
 use Rattle.layout.specs.Answers.{Answer, refused, granted, numberOf, placeOf, valueOr, partOf, Span, nothing, spanned}
 use Rattle.layout.specs.Asked.{Whereabouts, ofRecord, channelFound}
 use Rattle.layout.specs.Voice.{trimmed, voiceBytes, voiceName, voiceSpanAt, voiceSpan}
+use Rattle.layout.proofs.Editions.{size-least}
 use Rattle.read_find.specs.declared.row.Sought.{Sought}
 use Rattle.read_find.specs.declared.row.Sought.the-variants.{Refused as No, At}
 use Rattle.read_find.specs.Row.{sought}
@@ -53,10 +55,10 @@ module _ (s : List ℕ) (g channel : ℕ) where
   unfolding voiceSpan spanned numberOf placeOf valueOr
   voice-no a b h = rw (record-refused s g channel (λ row. granted (voiceSpanAt s (row .at))) a b h)
 
-  pub voice-at : (i at n : ℕ) → sought (channelFound s g channel) ≡ At i at → n ≡ length (trimmed (voiceBytes s at))
+  pub voice-at : (f : Edition) (i at n : ℕ) → sought (channelFound s g channel) ≡ At f i at → n ≡ length (trimmed (voiceBytes s at))
       → _≡_ {A = Spanned} (record { number = 0; place = 0; start = at + 1; length = n }) (spanned (voiceSpan s g channel))
   unfolding voiceSpan spanned numberOf placeOf valueOr
-  voice-at i at n h e = rw (record-there s g channel (λ row. granted (voiceSpanAt s (row .at))) i at h, e)
+  voice-at f i at n h e = rw (record-there s g channel (λ row. granted (voiceSpanAt s (row .at))) f i at h, e)
 
 -- ---- the part that the answer names
 
@@ -103,7 +105,7 @@ module _ (s : List ℕ) (g channel : ℕ) where
 
       go : (x : Sought) → sought (channelFound s g channel) ≡ x → Alike s (ofRecord s g channel span) (ofRecord s g channel part)
       go (No a b) e = rw (record-refused s g channel span a b e, record-refused s g channel part a b e) (alike-refused s a b)
-      go (At i at) e = rw (record-there s g channel span i at e, record-there s g channel part i at e) (alike-shown s at (omega (arith, record-within s g channel i at e)))
+      go (At f i at) e = rw (record-there s g channel span f i at e, record-there s g channel part f i at e) (alike-shown s at (omega (arith, record-within s g channel f i at e, size-least f)))
 
   module _ (r : Spanned) (e : r ≡ spanned (voiceSpan s g channel)) where
     pub voice-within : r .start + r .length ≤ length s

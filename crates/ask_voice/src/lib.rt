@@ -35,7 +35,7 @@ pub fn find_voice(s: &[u8], group: usize, channel: SourceChannel) -> Spanned
             start: 0,
             length: 0,
         },
-        Sought::At(_, at) => {
+        Sought::At(_, _, at) => {
             let n = shown_length(s, at);
             Spanned {
                 number: 0,

@@ -1,22 +1,7 @@
 -- What the proofs of the calls share: the face's answer for what crossed, and as what crosses back.
 use Prim.Native.Nat.{ℕ}
-use mathlib.Core.Path.{_≡_, refl, sym, ap, subst, _∙_}
-use mathlib.Core.Bool.{Bool, true, false, cond}
+use mathlib.Core.Path.{_≡_, ap, subst, _∙_}
 use mathlib.Core.List.{List, map}
-use lib.Dec.{leb}
-use lib.ListN.{drop}
-use Rattle.layout.specs.declared.edition.Edition.{Edition}
-use Rattle.layout.specs.declared.edition.Edition.the-variants.{First}
-use Rattle.layout.specs.declared.turn.Run.{Run}
-use Rattle.layout.specs.declared.turn.Run.the-variants.{Stopped, Ended}
-use Rattle.layout.specs.declared.turn.Judged.{Judged}
-use Rattle.layout.specs.declared.turn.Judged.the-variants.{Unsound, Sound}
-use Rattle.layout.specs.declared.answer.Grouped.{Grouped}
-use Rattle.layout.specs.Answers.{refused, granted, afterRun, valueOr, nowhere, grouped}
-use Rattle.layout.specs.Group.{groupAt}
-use Rattle.layout.specs.Body.{groupPlace, bodyRun}
-use Rattle.layout.specs.Asked.{standingAt, standing, ofGroup, groupFound}
-use Rattle.layout.proofs.GroupSound.{group-sound-is}
 use Rattle.layout.specs.declared.record.SourceChannel.{SourceChannel}
 use Rattle.layout.specs.declared.record.Record.{Record}
 use Rattle.layout.specs.declared.answer.Answered.{Answered}
@@ -37,49 +22,6 @@ edited-by before after group source new row r e p = subst (λ (x : Record). Reco
 -- the answer of a field set, with the record that it holds as a row
 pub edit-told : (x y : Changed) (row : Row) → row ≡ rowFor (x .held) → x ≡ y → record { number = x .number; place = x .place; held = row } ≡ editOf y
 edit-told x y row e h = ap {B = Edited} (λ (w : Row). record { number = x .number; place = x .place; held = w }) e ∙ ap editOf h
-
--- every group that is read is of the first edition ..
-standing-first : (s : List ℕ) (at : ℕ) (j : Judged) → groupAt (drop at s) ≡ j → standingAt s at j .edition ≡ First
-unfolding standingAt
-standing-first s at (Unsound number place) e = refl
-standing-first s at (Sound ed t n m) e = sym (group-sound-is (drop at s) ed t n m e .edition)
-
-found-first : (s : List ℕ) (g : ℕ) → grouped (groupFound s g) .group .edition ≡ First
-unfolding grouped valueOr groupFound ofGroup afterRun standing
-found-first s g = go (bodyRun s)
-  where
-    there : (b : Bool) → valueOr nowhere (cond b (refused 16 0) (granted (standing s g))) .edition ≡ First
-    there true = refl
-    there false = standing-first s (groupPlace s g) (groupAt (drop (groupPlace s g) s)) refl
-
-    go : (r : Run) → valueOr nowhere (afterRun r (λ n. cond (leb n g) (refused 16 0) (granted (standing s g)))) .edition ≡ First
-    go (Stopped number place) = refl
-    go (Ended n) = there (leb n g)
-
--- .. so what does not cross of its standing is known
-abbrev told : Grouped → Edition → Grouped
-told x e =
-    record {
-      number = x .number;
-      place = x .place;
-      group =
-          record {
-            edition = e;
-            at = x .group .at;
-            size = x .group .size;
-            text = x .group .text;
-            length = x .group .length;
-            ctabs = x .group .ctabs;
-            records = x .group .records;
-            cntts = x .group .cntts;
-            seconds = x .group .seconds;
-          };
-    }
-
-pub group-told : (s : List ℕ) (g : ℕ) (x : Grouped) → x ≡ grouped (groupFound s g) → told x First ≡ grouped (groupFound s g)
-group-told s g x e =
-    let crossed : told x (x .group .edition) ≡ x = refl in
-    ap (told x) (sym (ap (λ (y : Grouped). y .group .edition) e ∙ found-first s g)) ∙ (crossed ∙ e)
 
 -- the answer of who plays, its channels as numbers
 pub players-told : (x y : Played) (numbers : List ℕ) → map channel numbers ≡ x .channels → x ≡ y

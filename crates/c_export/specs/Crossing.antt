@@ -1,12 +1,17 @@
 -- What crosses to C, as the answers of the layout: field by field the same, under the names of include/casm.h.
-use mathlib.Core.List.{map}
-use Rattle.c_row.specs.Rows.{channel, rowFor}
+use Prim.Native.Nat.{ℕ}
+use mathlib.Core.Path.{_≡_}
+use mathlib.Core.Bool.{cond}
+use mathlib.Core.List.{List, map}
+use lib.Dec.{eqb}
+use Rattle.c_row.specs.Rows.{channel, editionBy, editionNumber, rowFor}
+use Rattle.layout.specs.Promises.{GroupFound}
 use Rattle.layout.specs.declared.answer.Answered.{Answered}
 use Rattle.layout.specs.declared.answer.Counted.{Counted}
 use Rattle.layout.specs.declared.answer.Measured.{Measured}
 use Rattle.layout.specs.declared.answer.Located.{Located}
 use Rattle.layout.specs.declared.answer.Named.{Named}
-use Rattle.layout.specs.declared.edition.Edition.the-variants.{First}
+use Rattle.layout.specs.declared.edition.Edition.{Edition}
 use Rattle.layout.specs.declared.answer.Standing.{Standing}
 use Rattle.layout.specs.declared.answer.Grouped.{Grouped}
 use Rattle.layout.specs.declared.answer.Channelled.{Channelled}
@@ -46,11 +51,11 @@ asLocated r = record { number = r .number; place = r .place; tag = r .tag; lengt
 abbrev pub asNamed : Holder → Named
 asNamed r = record { number = r .number; place = r .place; group = r .group }
 
--- where a group and its parts stand; every group that is read is of the first edition
+-- where a group and its parts stand
 abbrev pub asStanding : Bounds → Standing
 asStanding r =
     record {
-      edition = First;
+      edition = editionBy (r .edition);
       at = r .at;
       size = r .size;
       text = r .«text_at»;
@@ -64,6 +69,15 @@ asStanding r =
 -- one group
 abbrev pub asGrouped : Bounds → Grouped
 asGrouped r = record { number = r .number; place = r .place; group = asStanding r }
+
+-- the number of the edition of so many records: 0 for a group without records, which suits either
+unfoldable pub editionTold : Edition → ℕ → ℕ
+editionTold e n = cond (eqb n 0) 0 (editionNumber e)
+
+-- one group is found, and its edition has that number
+pub record GroupCrossed (body : List ℕ) (group : ℕ) (r : Bounds) : Type 0 where
+  pub found : GroupFound body group (asGrouped r)
+  pub edition : r .edition ≡ editionTold (asStanding r .edition) (r .records)
 
 -- the record of a source channel
 abbrev pub asChannelled : Position → Channelled

@@ -42,7 +42,7 @@ pub struct Holder {
     pub group: usize,
 }
 
-// Where a group and its parts stand in the body.
+// Where a group and its parts stand in the body, and the number of its edition, 0 for a group without records.
 #[repr(C)]
 pub struct Bounds {
     pub number: u8,
@@ -55,6 +55,7 @@ pub struct Bounds {
     pub records: usize,
     pub cntts_at: usize,
     pub cntts: usize,
+    pub edition: u8,
 }
 
 // The record of a source channel in a group: its number among the group's records, and the place of its byte 0 in the body.

@@ -1,11 +1,14 @@
 // Strict reading and the salvage list (document 01, "The CASM body" and "The salvage list").
-ghost use Rattle.layout.specs.Promises.{CasmFound, BodyRead, PartFound, GroupFound, ChannelFound, Salvaged};
-ghost use Rattle.c_export.specs.Crossing.{asLocated, asCounted, asNamed, asGrouped, asChannelled};
+ghost use mathlib.Core.Path.{_≡_};
+ghost use Rattle.layout.specs.Promises.{CasmFound, BodyRead, PartFound, ChannelFound, Salvaged};
+ghost use Rattle.c_export.specs.Crossing.{asLocated, asCounted, asNamed, editionTold, GroupCrossed, asChannelled};
 use crate::answer::Bounds;
 use crate::answer::Count;
 use crate::answer::Holder;
 use crate::answer::Position;
 use crate::answer::Section;
+use c_row::row::edition_number;
+use layout::edition::Edition;
 use layout::record::SourceChannel;
 
 // Finds the CASM section of a style file: the place of its tag and the length of its body.
@@ -48,13 +51,25 @@ pub extern "C" fn casm_part(body: &[u8], part: &[u8]) -> Holder
     }
 }
 
+// The number of the edition of so many records: 0 for none.
+fn edition_told(edition: Edition, records: usize) -> u8
+    ensures { λ n. ⌜ n ≡ editionTold edition records ⌝ }
+{
+    if records == 0 {
+        return 0;
+    }
+    edition_number(edition)
+}
+
 // Where a group and its parts stand in the body, by the group's number.
 #[no_mangle]
 pub extern "C" fn casm_group(body: &[u8], group: usize) -> Bounds
-    ensures { λ r. ⌜ GroupFound (now (body .entry)) group (asGrouped r) ⌝ }
+    ensures { λ r. ⌜ GroupCrossed (now (body .entry)) group r ⌝ }
 {
     let x = casm::read::find_group(body, group);
     let g = x.group;
+    let own = g.edition;
+    let edition = edition_told(own, g.records);
     Bounds {
         number: x.number,
         place: x.place,
@@ -66,6 +81,7 @@ pub extern "C" fn casm_group(body: &[u8], group: usize) -> Bounds
         records: g.records,
         cntts_at: g.cntts,
         cntts: g.seconds,
+        edition: edition,
     }
 }
 

@@ -7,17 +7,19 @@ use mathlib.Core.List.{List, [], _∷_, _++_, append-assoc, flatMap}
 use lib.ListN.{length, getD, take, drop, length-append, length-drop}
 use lib.Seq.{take-suc, length-take-le}
 use borrow.Rule.Slice.PartMut.{midOf, putMid}
-use Rattle.layout.specs.Records.{bytesOf}
+use Rattle.layout.specs.Records.{laidOut, secondIn, positionIn}
 use Rattle.layout.specs.declared.record.Record.{Record}
 use Rattle.layout.proofs.Lists.{flatMap-last}
+use Rattle.layout.proofs.Records.{laid-length as laid-out}
 use Rattle.write_chunks.proofs.Tails.{tail-written}
+use Rattle.c_row.specs.Rows.{hasOf, valueOf}
 use Rattle.c_row.specs.Flat.{rowSize, rowBytes}
 
 -- ---- one record
 
 pub row-length : (r : Record) → length (rowBytes r) ≡ rowSize
-unfolding rowBytes bytesOf
-row-length r = refl
+unfolding rowBytes
+row-length r = omega (arith, length-append (laidOut r) (hasOf (secondIn r) ∷ valueOf (secondIn r) ∷ positionIn r ∷ []), laid-out r)
 
 -- a row is put over as many bytes
 pub row-put : (r : Record) (b old xs : List ℕ) → b ≡ rowBytes r → xs ≡ b ++ drop (length b) old → xs ≡ rowBytes r ++ drop rowSize old

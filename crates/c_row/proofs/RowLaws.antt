@@ -1,16 +1,18 @@
 -- A list of known length is its elements, and a second table is there or not: so a row spelled out is the record's.
 use Prim.Native.Nat.{ℕ, zero, suc}
-use mathlib.Core.Path.{_≡_, refl, sym, ap, subst, _∙_}
+use mathlib.Core.Path.{_≡_, refl, sym, ap, ap₂, subst, _∙_}
 use mathlib.Core.Bool.{Bool, cond}
 use mathlib.Core.List.{List, [], _∷_, _++_}
-use lib.ListN.{length, getD, replicate}
+use lib.ListN.{length, getD}
 use borrow.Author.Tests.{eq-eqb, ne-eqb}
 use Rattle.layout.specs.declared.record.SecondTable.{SecondTable}
 use Rattle.layout.specs.declared.record.SecondTable.the-variants.{Absent, Value}
 use Rattle.layout.specs.declared.record.Record.{Record}
-use Rattle.layout.specs.Records.{bytesOf, recordOf}
-use Rattle.layout.proofs.Records.{bytes-length}
-use Rattle.c_row.specs.Rows.{secondBy, hasOf, valueOf, firstRow, rowFor}
+use Rattle.layout.specs.declared.edition.Edition.{Edition}
+use Rattle.layout.specs.declared.edition.Edition.the-variants.{First, Second}
+use Rattle.layout.specs.Records.{recordOf, editionOf, secondIn, positionIn, laidOut}
+use Rattle.layout.proofs.Records.{laid-length}
+use Rattle.c_row.specs.Rows.{editionBy, editionNumber, secondBy, hasOf, valueOf, rowFor}
 use Rattle.c_row.specs.Flat.{rowBytes}
 
 module _ {A : Type 0} (d : A) where
@@ -38,21 +40,28 @@ pub second-there : (has cntt : ℕ) → (has ≡ 0 → ⊥) → Value cntt ≡ s
 unfolding secondBy
 second-there has cntt h = sym (ap (λ (t : Bool). cond t Absent (Value cntt)) (ne-eqb has 0 h))
 
--- the record of a row's bytes and the second table that was made of the other two
-pub record-made : (b : List ℕ) (second told : SecondTable) (position : ℕ) (r : Record) → second ≡ told → r ≡ recordOf b second position → r ≡ recordOf b told position
-record-made b second told position r e h = h ∙ ap (λ (t : SecondTable). recordOf b t position) e
+pub edition-second : (n : ℕ) → n ≡ 2 → Second ≡ editionBy n
+unfolding editionBy
+edition-second n h = sym (rw h)
 
--- a record's bytes one by one, and what stands behind them
-pub bytes-spelled : (r : Record) (b rest : List ℕ) → b ≡ bytesOf r → elements 0 b 0 26 ++ rest ≡ bytesOf r ++ rest
-bytes-spelled r b rest e = ap (λ (l : List ℕ). l ++ rest) (its-elements 0 b 26 (ap length e ∙ bytes-length r) ∙ e)
+pub edition-first : (n : ℕ) → (n ≡ 2 → ⊥) → First ≡ editionBy n
+unfolding editionBy
+edition-first n h = sym (rw (ne-eqb n 2 h))
 
-module _ (r : Record) (b : List ℕ) (has value : ℕ) (h : has ≡ hasOf (r .second)) (v : value ≡ valueOf (r .second)) where
-  pub row-is : b ≡ bytesOf r ++ replicate 21 0
-      → record { edition = firstRow; bytes = b; «has_cntt» = has; cntt = value; position = r .position } ≡ rowFor r
+-- the record of a row's bytes, and of the edition and the second table that were made of the others
+pub record-made : (e f : Edition) (b : List ℕ) (second told : SecondTable) (position : ℕ) (r : Record) → e ≡ f → second ≡ told
+    → r ≡ recordOf e b second position → r ≡ recordOf f b told position
+record-made e f b second told position r d s h = h ∙ ap₂ (λ (x : Edition) (y : SecondTable). recordOf x b y position) d s
+
+-- a record by what is told of it
+module _ (r : Record) (e : Edition) (t : SecondTable) (number has value position : ℕ) (b : List ℕ) (is : e ≡ editionOf r) (told : t ≡ secondIn r) (n : number ≡ editionNumber e)
+    (h : has ≡ hasOf t) (v : value ≡ valueOf t) (p : position ≡ positionIn r) (laid : b ≡ laidOut r) where
+  pub row-is : record { edition = number; bytes = b; «has_cntt» = has; cntt = value; position = position } ≡ rowFor r
   unfolding rowFor
-  row-is e = rw (e, h, v)
+  row-is = rw (n, is, laid, h, v, told, p)
 
-  pub row-spelled : b ≡ bytesOf r → firstRow ∷ (elements 0 b 0 26 ++ (replicate 21 0 ++ (has ∷ value ∷ r .position ∷ []))) ≡ rowBytes r
+  pub row-spelled : number ∷ (elements 0 b 0 47 ++ (has ∷ value ∷ position ∷ [])) ≡ rowBytes r
   unfolding rowBytes
-  row-spelled e =
-      ap (λ (l : List ℕ). firstRow ∷ l) (bytes-spelled r b (replicate 21 0 ++ (has ∷ value ∷ r .position ∷ [])) e) ∙ rw (h, v)
+  row-spelled =
+      ap (λ (l : List ℕ). number ∷ (l ++ (has ∷ value ∷ position ∷ []))) (its-elements 0 b 47 (ap length laid ∙ laid-length r) ∙ laid)
+      ∙ rw (n, is, h, v, told, p)

@@ -2,16 +2,16 @@
 use Prim.Native.Nat.{ℕ, _+_, _*_, _/_}
 use mathlib.Core.Path.{_≡_}
 use mathlib.Core.List.{List, [], _∷_, _++_, flatMap}
-use lib.ListN.{length, getD, take, drop, replicate}
+use lib.ListN.{length, getD, take, drop}
 use Rattle.layout.specs.Lists.{rows}
 use Rattle.layout.specs.Answers.{retold, lentAfter, countedAll}
 use Rattle.layout.specs.Asked.{recordsRead}
 use Rattle.layout.specs.declared.edition.Edition.the-variants.{Second}
 use Rattle.layout.specs.Editions.{held}
-use Rattle.layout.specs.Records.{bytesOf, recordOf}
+use Rattle.layout.specs.Records.{recordOf, editionOf, secondIn, positionIn, laidOut}
 use Rattle.layout.specs.declared.record.Record.{Record}
 use Rattle.layout.specs.declared.answer.Counted.{Counted}
-use Rattle.c_row.specs.Rows.{secondBy, hasOf, valueOf, firstRow}
+use Rattle.c_row.specs.Rows.{secondBy, hasOf, valueOf, editionBy, editionNumber}
 
 -- a row: the edition, as many bytes as a record of either edition has, and three for the Cntt
 abbrev pub rowSize : ℕ
@@ -23,7 +23,7 @@ lentRows size = size / rowSize
 
 -- the record that stands at the start
 unfoldable pub recordIn : List ℕ → Record
-recordIn p = recordOf (drop 1 p) (secondBy (getD p 48 0) (getD p 49 0)) (getD p 50 0)
+recordIn p = recordOf (editionBy (getD p 0 0)) (drop 1 p) (secondBy (getD p 48 0) (getD p 49 0)) (getD p 50 0)
 
 -- record number i
 unfoldable pub flatRecord : List ℕ → ℕ → Record
@@ -35,7 +35,7 @@ tableOf flat = rows (flatRecord flat) 0 (lentRows (length flat))
 
 -- a record as a row
 unfoldable pub rowBytes : Record → List ℕ
-rowBytes r = firstRow ∷ (bytesOf r ++ (replicate 21 0 ++ (hasOf (r .second) ∷ valueOf (r .second) ∷ r .position ∷ [])))
+rowBytes r = editionNumber (editionOf r) ∷ (laidOut r ++ (hasOf (secondIn r) ∷ valueOf (secondIn r) ∷ positionIn r ∷ []))
 
 -- a group's records in a lent flat table: filled up to the count, later bytes kept
 pub record RowsRead (body : List ℕ) (group : ℕ) (before : List ℕ) (r : Counted) (after : List ℕ) : Type 0 where

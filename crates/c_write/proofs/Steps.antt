@@ -5,6 +5,7 @@ use mathlib.Core.List.{List, flatMap}
 use native.Mathlib.Omega.{arith}
 use lib.ListN.{length, take}
 use Rattle.layout.specs.Edit.{replaced}
+use Rattle.layout.specs.Group.{ctabPlace}
 use Rattle.layout.specs.Promises.{GroupWritten}
 use Rattle.layout.specs.Write.{ctabBytes}
 use Rattle.layout.specs.declared.answer.Measured.{Measured}
@@ -23,7 +24,7 @@ module _ (text flat out : List ℕ) (count : ℕ) (p : Plan) (e : p ≡ planOf t
   lent = omega (arith, fits .within, table-length flat)
 
   module _ (one : List ℕ) (at : ℕ) (a : at ≡ startPlace text p) where
-    pub ctabs-fit : length one ≡ length out → at + 35 * p .records ≤ length one
+    pub ctabs-fit : length one ≡ length out → ctabPlace (p .edition) at (p .records) ≤ length one
     ctabs-fit l = omega (arith, a, l, fits .chunks)
 
     pub all-written : one ≡ framed text p out → (two : List ℕ) (r : Measured) → two ≡ replaced one at (flatMap ctabBytes (take (p .records) (tableOf flat))) → r ≡ measuredBy p

@@ -4,6 +4,7 @@ use casm::read::find_channel;
 use casm::read::find_group;
 use casm::read::find_part;
 use casm::read::read_body;
+use layout::edition::Edition;
 use layout::record::SourceChannel;
 use script_text::print::OUT;
 use script_text::print::put_told;
@@ -32,10 +33,22 @@ pub fn part(body: &[u8], name: &[u8], out: &mut [u8; OUT], used: usize) -> usize
     put_told(out, used, found.number, found.place, &[found.group])
 }
 
+// The number of a group's edition, 0 for a group without records, which suits either.
+fn edition_told(edition: Edition, records: usize) -> usize {
+    if records == 0 {
+        return 0;
+    }
+    match edition {
+        Edition::First => 1,
+        Edition::Second => 2,
+    }
+}
+
 // `where BYTES G`: `where` is a word of the language.
 pub fn place(body: &[u8], group: usize, out: &mut [u8; OUT], used: usize) -> usize {
     let found = find_group(body, group);
     let stands = found.group;
+    let edition = stands.edition;
     let told = [
         stands.at,
         stands.size,
@@ -45,6 +58,7 @@ pub fn place(body: &[u8], group: usize, out: &mut [u8; OUT], used: usize) -> usi
         stands.records,
         stands.cntts,
         stands.seconds,
+        edition_told(edition, stands.records),
     ];
     put_told(out, used, found.number, found.place, &told)
 }

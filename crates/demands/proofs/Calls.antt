@@ -17,6 +17,7 @@ use Rattle.casm.proofs.field.set_field.Met as set-field
 use Rattle.casm.proofs.field.set_in_place.Met as set-in-place
 use Rattle.casm.proofs.list.list_salvage.Met as list-salvage
 use Rattle.casm.proofs.bytes.record_of.Met as record-of
+use Rattle.casm.proofs.bytes.edition_of.Met as edition-of
 use Rattle.casm.proofs.bytes.bytes_of.Met as bytes-of
 use Rattle.demands.specs.Calls.{EveryCallEnds}
 
@@ -41,5 +42,6 @@ every-call-ends =
       set-in-place-ends = set-in-place.met;
       list-salvage-ends = list-salvage.met;
       record-of-ends = record-of.met;
+      edition-of-ends = edition-of.met;
       bytes-of-ends = bytes-of.met;
     }

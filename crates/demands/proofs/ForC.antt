@@ -18,8 +18,8 @@ use Rattle.c_export.specs.Crossing.{answered, asCounted, asMeasured, asLocated,
 use Rattle.law_refusals.proofs.Calls.{casm-given, body-given, group-given, part-given, channel-given, voice-given, players-given, note-given}
 use Rattle.law_refusals.proofs.Changes.{write-given, edit-given, salvage-given}
 use Rattle.law_refusals.proofs.Kept.{buffer-kept, body-kept, list-kept}
-use Rattle.law_refusals.proofs.Nothing.{casm-nothing, body-nothing, group-nothing, part-nothing, channel-nothing, voice-nothing, note-nothing}
-use Rattle.law_crossing.proofs.Refused.{players-nobody, field-crossed-given, field-crossed-kept, rows-given, rows-kept}
+use Rattle.law_refusals.proofs.Nothing.{casm-nothing, body-nothing, part-nothing, channel-nothing, voice-nothing, note-nothing}
+use Rattle.law_crossing.proofs.Refused.{group-crossed-nothing, players-nobody, field-crossed-given, field-crossed-kept, rows-given, rows-kept}
 use Rattle.demands.specs.ForC.{EveryCCallEnds, FindRefuses, BodyRefuses, PartRefuses, GroupRefuses, ChannelRefuses, SalvageRefuses, PlaysRefuses, VoiceRefuses, PlaceRefuses, EditRefuses, FieldRefuses, WriteRefuses, RecordsRefuse}
 
 pub every-c-call-ends : {M : Type 1} → EveryCCallEnds M
@@ -50,7 +50,7 @@ pub part-refuses : PartRefuses
 part-refuses body part r p = record { given = part-given body part (asNamed r) p; nothing = part-nothing body part (asNamed r) p }
 
 pub group-refuses : GroupRefuses
-group-refuses body group r p = record { given = group-given body group (asGrouped r) p; nothing = group-nothing body group (asGrouped r) p }
+group-refuses body group r p = record { given = group-given body group (asGrouped r) (p .found); nothing = group-crossed-nothing body group r p }
 
 pub channel-refuses : ChannelRefuses
 channel-refuses body group source r p = record { given = channel-given body group source (asChannelled r) p; nothing = channel-nothing body group source (asChannelled r) p }

@@ -2,6 +2,7 @@ pub mod Marked
 pub mod Salvage
 pub mod Rounds
 pub mod Positions
+pub mod Editions
 pub mod Placing
 pub mod Playing
 pub mod Refusals

@@ -5,7 +5,8 @@ use Rattle.ask_place.proofs.Hearing.{always-one-answer}
 use Rattle.demands.specs.Placing.{ShiftIsTheDocuments, NoteIsTold, NoteIsAnOctave, SilenceNeverOccurs}
 
 pub shift-is-the-documents : ShiftIsTheDocuments
-shift-is-the-documents r root = record { bypassed = bypass-stays r root; up-to-the-key = shift-to-the-key r root; above-the-key = shift-past-the-key r root }
+shift-is-the-documents table key from root =
+    record { bypassed = bypass-stays table key from root; up-to-the-key = shift-to-the-key table key from root; above-the-key = shift-past-the-key table key from root }
 
 pub note-is-told : NoteIsTold
 note-is-told = answer-told

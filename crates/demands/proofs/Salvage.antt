@@ -8,7 +8,7 @@ use Rattle.layout.specs.Scan.{firstOf, first, runOf, run}
 use Rattle.layout.specs.Bytes.{number, word, tagAt, tagged}
 use Rattle.layout.specs.Ranges.{inside}
 use Rattle.layout.specs.Sdec.{firstName, laterNames, names, soundText}
-use Rattle.layout.specs.Group.{headFault, ctabsOver, ctabAt, ctabTurn, cnttAt, cnttTurn, cnttsOf, ctabsOf, afterCntts, afterCtabs, contents, payload, groupSize, behindHeader, groupAt}
+use Rattle.layout.specs.Group.{headFault, ctabsOver, ctabAt, ctabTurn, cnttAt, cnttTurn, cnttsOf, ctabsOf, afterCntts, afterCtb2s, afterCtabs, editionAt, contents, payload, groupSize, behindHeader, groupAt}
 use Rattle.layout.specs.Salvage.{cseg, front, pieces, rest, listed, judged, parts, entriesFrom, salvage}
 use Rattle.law_salvage.specs.Salvage.{GroupsBody, NoneCompleted, groupsFrom, moved, movedByChange, groupsWere, bytesAre, NoneCompletedIn, listFrom}
 use Rattle.law_salvage.proofs.Entries.{entries-cover-body, entries-give-back, kinds-exact, entries-alone}
@@ -54,7 +54,7 @@ calls-list = accepted-lists
 
 -- M and N are sound groups, and CSEG stands nowhere else in them
 lone : Lone M × Lone N
-unfolding same has distinct every firstOf first runOf run number word tagAt tagged inside firstName laterNames names soundText headFault ctabsOver ctabAt ctabTurn cnttAt cnttTurn cnttsOf ctabsOf afterCntts afterCtabs contents payload groupSize behindHeader groupAt cseg free
+unfolding same has distinct every firstOf first runOf run number word tagAt tagged inside firstName laterNames names soundText headFault ctabsOver ctabAt ctabTurn cnttAt cnttTurn cnttsOf ctabsOf afterCntts afterCtb2s afterCtabs editionAt contents payload groupSize behindHeader groupAt cseg free
 lone = (
   record { group = record { edition = First; text = 6; ctabs = 0; cntts = 0; sound = refl; whole = refl }; only = free-by (drop 1 M) refl },
   record { group = record { edition = First; text = 6; ctabs = 0; cntts = 0; sound = refl; whole = refl }; only = free-by (drop 1 N) refl },

@@ -18,6 +18,7 @@ use Rattle.casm.proofs.field.set_field.Statement as set-field
 use Rattle.casm.proofs.field.set_in_place.Statement as set-in-place
 use Rattle.casm.proofs.list.list_salvage.Statement as list-salvage
 use Rattle.casm.proofs.bytes.record_of.Statement as record-of
+use Rattle.casm.proofs.bytes.edition_of.Statement as edition-of
 use Rattle.casm.proofs.bytes.bytes_of.Statement as bytes-of
 
 -- the calls of the face, one by one
@@ -40,4 +41,5 @@ pub record EveryCallEnds (M : Type 1) : Type 2 where
   pub set-in-place-ends : set-in-place.statement M
   pub list-salvage-ends : list-salvage.statement M
   pub record-of-ends : record-of.statement M
+  pub edition-of-ends : edition-of.statement M
   pub bytes-of-ends : bytes-of.statement M

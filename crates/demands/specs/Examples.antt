@@ -6,6 +6,7 @@ use mathlib.Core.List.{List, [], _∷_, _++_}
 use lib.ListN.{take, set, replicate}
 use Rattle.layout.specs.Bytes.{MThd, MTrk, CASM, CSEG, four, chunk}
 use Rattle.layout.specs.declared.record.Record.{Record}
+use Rattle.layout.specs.declared.record.Form.the-variants.{One}
 use Rattle.layout.specs.declared.record.SecondTable.the-variants.{Absent}
 use Rattle.layout.specs.declared.answer.Counted.{Counted}
 use Rattle.layout.specs.declared.answer.Placed.{Placed}
@@ -38,14 +39,7 @@ sample mask key low high =
       chords = 0x07 ∷ replicate 4 0xFF;
       root = 0;
       chord = 0;
-      rule = 0;
-      table = 0x01;
-      key = key;
-      low = low;
-      high = high;
-      retrigger = 0;
-      second = Absent;
-      position = 0;
+      form = One (record { set = record { rule = 0; table = 0x01; key = key; low = low; high = high; retrigger = 0 }; second = Absent; position = 0 });
     }
 
 -- the record that a note is placed by: high key 5 and these limits

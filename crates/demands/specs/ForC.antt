@@ -21,7 +21,7 @@ use Rattle.c_export.specs.declared.answer.Span.{Span}
 use Rattle.c_export.specs.declared.answer.Players.{Players}
 use Rattle.c_export.specs.declared.answer.Note.{Note}
 use Rattle.c_export.specs.declared.answer.Edited.{Edited}
-use Rattle.c_export.specs.Crossing.{answered, asCounted, asMeasured, asLocated, asNamed, asStanding, asGrouped, asChannelled, asSpanned, asPlayed, asPlaced, editOf}
+use Rattle.c_export.specs.Crossing.{answered, asCounted, asMeasured, asLocated, asNamed, asStanding, GroupCrossed, asChannelled, asSpanned, asPlayed, asPlaced, editOf}
 use Rattle.c_export.proofs.reading.casm_find.Statement as casm-find
 use Rattle.c_export.proofs.reading.casm_body.Statement as casm-body
 use Rattle.c_export.proofs.reading.casm_part.Statement as casm-part
@@ -77,8 +77,9 @@ PartRefuses = (body part : List ℕ) (r : Holder) → PartFound body part (asNam
 -- casm_group
 abbrev pub GroupRefuses : Type 0
 GroupRefuses =
-    (body : List ℕ) (group : ℕ) (r : Bounds) → GroupFound body group (asGrouped r)
-    → Refusing (GroupAsked body group) (r .number) (r .place) (asStanding r ≡ record { edition = First; at = 0; size = 0; text = 0; length = 0; ctabs = 0; records = 0; cntts = 0; seconds = 0 })
+    (body : List ℕ) (group : ℕ) (r : Bounds) → GroupCrossed body group r
+    → Refusing (GroupAsked body group) (r .number) (r .place)
+    ((asStanding r ≡ record { edition = First; at = 0; size = 0; text = 0; length = 0; ctabs = 0; records = 0; cntts = 0; seconds = 0 }) × (r .edition ≡ 0))
 
 -- casm_channel
 abbrev pub ChannelRefuses : Type 0
@@ -120,7 +121,7 @@ EditRefuses =
 abbrev pub FieldRefuses : Type 0
 FieldRefuses =
     (row : Row) (index value : ℕ) (r : Edited) → r ≡ editOf (changed (recorded row) (fieldSet (recorded row) index value))
-    → Refusing (FieldRefused index value) (r .number) (r .place) (r .held ≡ rowFor (recorded row))
+    → Refusing (FieldRefused (recorded row) index value) (r .number) (r .place) (r .held ≡ rowFor (recorded row))
 
 -- casm_write
 abbrev pub WriteRefuses : Type 0

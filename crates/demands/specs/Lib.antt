@@ -11,3 +11,4 @@ pub mod ForC
 pub mod ByValue
 pub mod Chords
 pub mod Positions
+pub mod Editions

@@ -8,36 +8,36 @@ use mathlib.Core.Logic.{_⊎_, _↔_}
 use lib.IntN.{ℤ, pos, _+ℤ_, _-ℤ_}
 use Rattle.layout.specs.declared.record.Record.{Record}
 use Rattle.layout.specs.declared.answer.Placed.{Placed}
-use Rattle.layout.specs.Place.{effective, shift}
+use Rattle.layout.specs.Place.{setFor, tableFor, shift}
 use Rattle.layout.specs.Promises.{NotePlaced}
 use Rattle.ask_place.specs.Octaves.{Octave, Answers}
 
--- a record's effective table is bypass, "00 or 80"
-abbrev pub Bypassed : Record → Type 0
-Bypassed r = (effective (r .second) (r .table) ≡ 0x00) ⊎ (effective (r .second) (r .table) ≡ 0x80)
+-- an effective table is bypass, "00 or 80"
+abbrev pub Bypassed : ℕ → Type 0
+Bypassed table = (table ≡ 0x00) ⊎ (table ≡ 0x80)
 
--- by how much a note is moved
-pub record Shifted (r : Record) (root : ℕ) (by : ℤ) : Type 0 where
+-- by how much a note is moved, by an effective table, a high key, a source root and a chord root
+pub record Shifted (table key from root : ℕ) (by : ℤ) : Type 0 where
   -- "if it is 00 or 80, shift is 0 under either rule"
-  pub bypassed : Bypassed r → by ≡ pos 0
+  pub bypassed : Bypassed table → by ≡ pos 0
   -- "otherwise shift is chord root minus source root" ..
-  pub up-to-the-key : (Bypassed r → ⊥) → root ≤ r .key → by ≡ pos root -ℤ pos (r .root)
+  pub up-to-the-key : (Bypassed table → ⊥) → root ≤ key → by ≡ pos root -ℤ pos from
   -- .. "less 12 when the chord root is above the high key"
-  pub above-the-key : (Bypassed r → ⊥) → r .key < root → by ≡ pos root -ℤ pos (r .root) -ℤ pos 12
+  pub above-the-key : (Bypassed table → ⊥) → key < root → by ≡ pos root -ℤ pos from -ℤ pos 12
 
--- the value that is placed is note plus shift, which "may be negative"
+-- the value that is placed is note plus shift, which "may be negative"; by the set that the note uses
 abbrev pub value : Record → ℕ → ℕ → ℤ
-value r root note = pos note +ℤ shift r root
+value r root note = pos note +ℤ shift (tableFor (r .form) note) (setFor (r .form) note .key) (r .root) root
 
 -- the shift is the document's
 abbrev pub ShiftIsTheDocuments : Type 0
-ShiftIsTheDocuments = (r : Record) (root : ℕ) → Shifted r root (shift r root)
+ShiftIsTheDocuments = (table key from root : ℕ) → Shifted table key from root (shift table key from root)
 
--- where the call accepts, it tells a note exactly where that is the answer for the value under the record's limits ..
+-- where the call accepts, it tells a note exactly where that is the answer for the value under the limits of the set that the note uses ..
 abbrev pub NoteIsTold : Type 0
 NoteIsTold =
     (r : Record) (root note : ℕ) (p : Placed) → NotePlaced r root note p → p .number ≡ 0
-    → (n : ℕ) → (p .note ≡ n) ↔ Answers (value r root note) (r .low) (r .high) n
+    → (n : ℕ) → (p .note ≡ n) ↔ Answers (value r root note) (setFor (r .form) note .low) (setFor (r .form) note .high) n
 
 -- .. which is an octave of the value within 0 to 127 ..
 abbrev pub NoteIsAnOctave : Type 0

@@ -10,7 +10,7 @@ use Rattle.layout.specs.declared.edition.Edition.{Edition}
 use Rattle.layout.specs.declared.turn.Judged.the-variants.{Sound}
 use Rattle.layout.specs.declared.record.Record.{Record}
 use Rattle.layout.specs.declared.answer.Measured.{Measured}
-use Rattle.layout.specs.Records.{bytesOf, recordOf}
+use Rattle.layout.specs.Records.{bytesOf, recordOf, editionOf, secondIn, positionIn}
 use Rattle.layout.specs.Answers.{granted}
 use Rattle.layout.specs.Group.{groupAt, Group}
 use Rattle.layout.specs.Sdec.{soundText}
@@ -35,9 +35,9 @@ PositionsRefusedExactly =
     (text : List ℕ) (table : List Record) (count : ℕ) (before : List ℕ) (r : Measured) (after : List ℕ) → GroupWritten text table count before r after
     → (r .number ≡ 18) ↔ ((count ≤ length table) × ((soundText text ≡ true) × (RecordsBefore table count × (PositionsRight (take count table) → ⊥))))
 
--- a record with another position
+-- a record with another position; a Ctb2 has none
 abbrev pub withPosition : ℕ → Record → Record
-withPosition position r = recordOf (bytesOf r) (r .second) position
+withPosition position r = recordOf (editionOf r) (bytesOf r) (secondIn r) position
 
 -- "an edit doesn't read it" ..
 abbrev pub EditedWhateverThePosition : Type 0
@@ -53,4 +53,4 @@ PlaysWhateverThePositions = (g h : Group) (root type : ℕ) → SameButPositions
 
 -- the screen keeps it
 abbrev pub ScreenKeepsThePosition : Type 0
-ScreenKeepsThePosition = (r after : Record) (index value : ℕ) → fieldSet r index value ≡ granted after → after .position ≡ r .position
+ScreenKeepsThePosition = (r after : Record) (index value : ℕ) → fieldSet r index value ≡ granted after → positionIn after ≡ positionIn r

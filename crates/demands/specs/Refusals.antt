@@ -85,12 +85,12 @@ RecordEditedRefused =
 
 -- set_field, by value ..
 abbrev pub FieldSetRefused : Type 0
-FieldSetRefused = (old : Record) (index value : ℕ) (r : Changed) → FieldSet old index value r → GivenUnder (FieldRefused index value) (r .number) (r .place)
+FieldSetRefused = (old : Record) (index value : ℕ) (r : Changed) → FieldSet old index value r → GivenUnder (FieldRefused old index value) (r .number) (r .place)
 
 -- .. and in place
 abbrev pub FieldInPlaceRefused : Type 0
 FieldInPlaceRefused =
-    (before : Record) (index value : ℕ) (r : Answered) (after : Record) → FieldSetInPlace before index value r after → GivenUnder (FieldRefused index value) (r .number) (r .place)
+    (before : Record) (index value : ℕ) (r : Answered) (after : Record) → FieldSetInPlace before index value r after → GivenUnder (FieldRefused before index value) (r .number) (r .place)
 
 -- list_salvage
 abbrev pub SalvagedRefused : Type 0

@@ -14,7 +14,7 @@ use Rattle.layout.specs.declared.answer.Answered.{Answered}
 use Rattle.layout.specs.declared.answer.Counted.{Counted}
 use Rattle.layout.specs.declared.answer.Measured.{Measured}
 use Rattle.layout.specs.declared.answer.Changed.{Changed}
-use Rattle.layout.specs.Records.{bytesOf}
+use Rattle.layout.specs.Records.{bytesOf, secondIn, positionIn}
 use Rattle.layout.specs.Answers.{granted}
 use Rattle.layout.specs.Group.{payload, groupSize, groupAt, Group, groupOf}
 use Rattle.layout.specs.Body.{bodyRun}
@@ -68,7 +68,7 @@ EditReadsBack =
 -- "sets one field byte of it .. all other fields kept"
 abbrev pub FieldAlone : Type 0
 FieldAlone =
-    (r after : Record) (index value : ℕ) → fieldSet r index value ≡ granted after → (bytesOf after ≡ set (bytesOf r) index value) × ((after .second ≡ r .second) × (after .position ≡ r .position))
+    (r after : Record) (index value : ℕ) → fieldSet r index value ≡ granted after → (bytesOf after ≡ set (bytesOf r) index value) × ((secondIn after ≡ secondIn r) × (positionIn after ≡ positionIn r))
 
 -- ---- at the calls
 

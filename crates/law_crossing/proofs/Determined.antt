@@ -29,7 +29,7 @@ use Rattle.c_export.specs.declared.answer.Span.{Span}
 use Rattle.c_export.specs.declared.answer.Players.{Players}
 use Rattle.c_export.specs.declared.answer.Note.{Note}
 use Rattle.c_export.specs.declared.answer.Edited.{Edited}
-use Rattle.c_export.specs.Crossing.{answered, asCounted, asMeasured, asLocated, asNamed, asGrouped, asChannelled, asSpanned, asPlayed, asPlaced, editOf}
+use Rattle.c_export.specs.Crossing.{answered, asCounted, asMeasured, asLocated, asNamed, asGrouped, asChannelled, asSpanned, asPlayed, asPlaced, editOf, editionTold, GroupCrossed}
 use Rattle.casm_by_value.specs.declared.Filled.{Filled}
 use Rattle.law_salvage.specs.Determined.{Determines, DeterminesBoth}
 use Rattle.law_salvage.proofs.Determined as face
@@ -52,8 +52,9 @@ section a = record { number = a .number; place = a .place; tag = a .tag; length 
 abbrev holder : Named → Holder
 holder a = record { number = a .number; place = a .place; group = a .group }
 
-abbrev bounds : Grouped → Bounds
-bounds a =
+-- one group, with this number of its edition
+abbrev bounds : Grouped → ℕ → Bounds
+bounds a edition =
     let g = a .group in
     record {
       number = a .number;
@@ -66,7 +67,15 @@ bounds a =
       records = g .records;
       «cntts_at» = g .cntts;
       cntts = g .seconds;
+      edition = edition;
     }
+
+-- .. which is told by the group itself
+abbrev boundsTold : Grouped → Bounds
+boundsTold a = bounds a (editionTold (a .group .edition) (a .group .records))
+
+bounds-told : (body : List ℕ) (group : ℕ) (r : Bounds) → GroupCrossed body group r → r ≡ boundsTold (asGrouped r)
+bounds-told body group r p = ap (bounds (asGrouped r)) (p .edition)
 
 abbrev position : Channelled → Position
 position a = record { number = a .number; place = a .place; «record» = a .row; at = a .at }
@@ -88,8 +97,9 @@ casm-body body = crossing-determines asCounted count (λ x. refl) (BodyRead body
 pub casm-part : (body part : List ℕ) → Determines (λ (r : Holder). PartFound body part (asNamed r))
 casm-part body part = crossing-determines asNamed holder (λ x. refl) (PartFound body part) (face.part-found body part)
 
-pub casm-group : (body : List ℕ) (group : ℕ) → Determines (λ (r : Bounds). GroupFound body group (asGrouped r))
-casm-group body group = crossing-determines asGrouped bounds (λ x. refl) (GroupFound body group) (face.group-found body group)
+pub casm-group : (body : List ℕ) (group : ℕ) → Determines (GroupCrossed body group)
+casm-group body group x y p q =
+    bounds-told body group x p ∙ (ap boundsTold (face.group-found body group (asGrouped x) (asGrouped y) (p .found) (q .found)) ∙ sym (bounds-told body group y q))
 
 pub casm-channel : (body : List ℕ) (group source : ℕ) → Determines (λ (r : Position). ChannelFound body group source (asChannelled r))
 casm-channel body group source = crossing-determines asChannelled position (λ x. refl) (ChannelFound body group source) (face.channel-found body group source)

@@ -14,15 +14,18 @@ use Rattle.layout.specs.Promises.{RecordsRead, PlaysTold}
 use Rattle.c_row.specs.declared.row.Row.{Row}
 use Rattle.c_row.specs.Rows.{recorded, rowFor}
 use Rattle.c_row.specs.Flat.{lentRows, rowBytes, RowsRead}
+use Rattle.layout.specs.declared.edition.Edition.the-variants.{First}
+use Rattle.layout.specs.declared.answer.Standing.{Standing}
+use Rattle.c_export.specs.declared.answer.Bounds.{Bounds}
 use Rattle.c_export.specs.declared.answer.Players.{Players}
 use Rattle.c_export.specs.declared.answer.Edited.{Edited}
-use Rattle.c_export.specs.Crossing.{asPlayed, editOf}
+use Rattle.c_export.specs.Crossing.{asStanding, asGrouped, editionTold, GroupCrossed, asPlayed, editOf}
 use Rattle.casm_by_value.specs.declared.Filled.{Filled}
 use Rattle.law_refusals.specs.Given.{GivenUnder}
 use Rattle.law_refusals.specs.After.{RecordsAsked}
 use Rattle.law_refusals.specs.Records.{FieldRefused}
 use Rattle.law_refusals.proofs.Kept.{lent-kept, retold-number, records-kept}
-use Rattle.law_refusals.proofs.Nothing.{players-nothing, field-nothing}
+use Rattle.law_refusals.proofs.Nothing.{group-nothing, players-nothing, field-nothing}
 use Rattle.law_refusals.proofs.Calls.{records-given}
 use Rattle.law_refusals.proofs.Changes.{field-given}
 use Rattle.law_crossing.proofs.Crossed.{numbers-back, channel-number, by-parts}
@@ -34,14 +37,24 @@ players-nobody s part root type r p z =
     let none = players-nothing s part root type (asPlayed r) p z in
     (none .0, sym (numbers-back (r .channels)) ∙ ap (map channel-number) (none .1))
 
+-- ---- casm_group
+
+-- a refusal has no records, and so no edition
+pub group-crossed-nothing : (body : List ℕ) (group : ℕ) (r : Bounds) → GroupCrossed body group r → (r .number ≡ 0 → ⊥)
+    → (asStanding r ≡ record { edition = First; at = 0; size = 0; text = 0; length = 0; ctabs = 0; records = 0; cntts = 0; seconds = 0 }) × (r .edition ≡ 0)
+unfolding editionTold
+group-crossed-nothing body group r p n =
+    let s = group-nothing body group (asGrouped r) (p .found) n in
+    (s, p .edition ∙ ap (λ (x : Standing). editionTold (x .edition) (x .records)) s)
+
 -- ---- casm_field
 
 module _ (row : Row) (index value : ℕ) (r : Edited) (p : r ≡ editOf (changed (recorded row) (fieldSet (recorded row) index value))) where
   abbrev told : Changed
   told = changed (recorded row) (fieldSet (recorded row) index value)
 
-  pub field-crossed-given : GivenUnder (FieldRefused index value) (r .number) (r .place)
-  field-crossed-given = subst (λ (x : Edited). GivenUnder (FieldRefused index value) (x .number) (x .place)) (sym p) (field-given (recorded row) index value told refl)
+  pub field-crossed-given : GivenUnder (FieldRefused (recorded row) index value) (r .number) (r .place)
+  field-crossed-given = subst (λ (x : Edited). GivenUnder (FieldRefused (recorded row) index value) (x .number) (x .place)) (sym p) (field-given (recorded row) index value told refl)
 
   pub field-crossed-kept : (r .number ≡ 0 → ⊥) → r .held ≡ rowFor (recorded row)
   field-crossed-kept z =

@@ -5,11 +5,13 @@ use native.Mathlib.Omega.{arith}
 use Rattle.layout.specs.declared.record.Record.{Record}
 use Rattle.law_refusals.specs.Heads.{HeadRefused, header-cut, other-tag, length-past}
 use Rattle.law_refusals.specs.File.{FileRefused, file-over, not-style, section-cut, section-past, tag-again, no-casm, casm-over}
-use Rattle.law_refusals.specs.Contents.{ContentsRefused, sdec-head, sdec-text, of-ctab, ctab-head, ctab-size, ctab-byte, ctab-again, cntt-head, cntt-size, cntt-channel, cntt-value, cntt-again, cntt-stray}
+use Rattle.law_refusals.specs.Contents.{ContentsRefused, sdec-head, sdec-text, of-ctab, ctb2-cntt, ctab-head, ctab-size, ctab-byte, ctab-again, cntt-head, cntt-size, cntt-channel, cntt-value, cntt-again, cntt-stray}
 use Rattle.law_refusals.specs.Body.{GroupRefused, group-head, group-empty, group-contents, BodyRefused, body-over, head-refused, too-many, group-refused, name-again}
+use Rattle.law_refusals.specs.Body as body
 use Rattle.law_refusals.specs.After.{GroupAsked, of-body, no-group, RecordsAsked, of-group, no-room, PartAsked, part-of-body, no-part}
 use Rattle.law_refusals.specs.After.{PlayersAsked, players-of-body, root-over, type-over, no-players, ChannelAsked, channel-of-group, no-channel, EditAsked, edit-of-channel, other-source, new-byte}
-use Rattle.law_refusals.specs.Records.{PlaceRefused, root-out, note-out, record-byte, root-fixed, WriteRefused, count-over, text-broken, table-byte, table-again, positions-wrong, buffer-short}
+use Rattle.law_refusals.specs.After as after
+use Rattle.law_refusals.specs.Records.{PlaceRefused, root-out, note-out, record-byte, root-fixed, rule-two, WriteRefused, count-over, text-broken, table-edition, table-byte, table-again, positions-wrong, buffer-short}
 use Rattle.law_refusals.specs.Records.{FieldRefused, index-out, value-out, SalvageRefused, list-over, list-short}
 
 -- a condition holds of numbers above 0 alone
@@ -33,10 +35,11 @@ head-above s at tag _ (length-past a b c) = omega arith
 contents-above : (c : List ℕ) → Above (ContentsRefused c)
 contents-above c _ _ (sdec-head number h) = head-above c _ _ number h
 contents-above c _ _ (sdec-text a b) = omega arith
-contents-above c _ _ (of-ctab _ _ (ctab-head n number a b d h)) = head-above c _ _ number h
-contents-above c _ _ (of-ctab _ _ (ctab-size n a b d)) = omega arith
-contents-above c _ _ (of-ctab _ _ (ctab-byte n k a b d e)) = omega arith
-contents-above c _ _ (of-ctab _ _ (ctab-again i n a b d e)) = omega arith
+contents-above c _ _ (of-ctab e _ _ o (ctab-head n number a b d h)) = head-above c _ _ number h
+contents-above c _ _ (of-ctab e _ _ o (ctab-size n a b d)) = omega arith
+contents-above c _ _ (of-ctab e _ _ o (ctab-byte n k a b d f)) = omega arith
+contents-above c _ _ (of-ctab e _ _ o (ctab-again i n a b d f)) = omega arith
+contents-above c _ _ (ctb2-cntt n o a b d) = omega arith
 contents-above c _ _ (cntt-head n j number a b h) = head-above c _ _ number h
 contents-above c _ _ (cntt-size n j a b d) = omega arith
 contents-above c _ _ (cntt-channel n j a b d e) = omega arith
@@ -54,7 +57,8 @@ body-above s _ _ (body-over a) = omega arith
 body-above s _ _ (head-refused k number a b d h) = head-above s _ _ number h
 body-above s _ _ (too-many a b) = omega arith
 body-above s _ _ (group-refused k number place a b d h) = group-above _ number place h
-body-above s _ _ (name-again i k name a b d e f g) = omega arith
+body-above s _ _ (body.other-edition i k e f a b d g h m) = omega arith
+body-above s _ _ (name-again i k name a b d e f g h) = omega arith
 
 module _ (s : List ℕ) where
   pub group-asked-above : (g : ℕ) → Above (GroupAsked s g)
@@ -82,25 +86,28 @@ module _ (s : List ℕ) where
   pub edit-asked-above : (g channel : ℕ) (new : Record) → Above (EditAsked s g channel new)
   edit-asked-above g channel new _ _ (edit-of-channel number place h) = channel-asked-above g channel number place h
   edit-asked-above g channel new _ _ (other-source a b) = omega arith
-  edit-asked-above g channel new _ _ (new-byte k a b c) = omega arith
+  edit-asked-above g channel new _ _ (after.other-edition a b c) = omega arith
+  edit-asked-above g channel new _ _ (new-byte k a b c d) = omega arith
 
 pub place-above : (r : Record) (root note : ℕ) → Above (PlaceRefused r root note)
 place-above r root note _ _ (root-out a) = omega arith
 place-above r root note _ _ (note-out a) = omega arith
 place-above r root note _ _ (record-byte k a b c) = omega arith
 place-above r root note _ _ (root-fixed a b c d e f) = omega arith
+place-above r root note _ _ (rule-two a b c d) = omega arith
 
 pub write-above : (text : List ℕ) (table : List Record) (count room : ℕ) → Above (WriteRefused text table count room)
 write-above text table count room _ _ (count-over a) = omega arith
 write-above text table count room _ _ (text-broken a b) = omega arith
-write-above text table count room _ _ (table-byte i k a b c d e) = omega arith
-write-above text table count room _ _ (table-again j i a b c d e f g) = omega arith
+write-above text table count room _ _ (table-edition i a b c d e) = omega arith
+write-above text table count room _ _ (table-byte i k a b c d e f) = omega arith
+write-above text table count room _ _ (table-again j i a b c d e f g h) = omega arith
 write-above text table count room _ _ (positions-wrong a b c d) = omega arith
 write-above text table count room _ _ (buffer-short a b c d e) = omega arith
 
-pub field-above : (index value : ℕ) → Above (FieldRefused index value)
-field-above index value _ _ (index-out a) = omega arith
-field-above index value _ _ (value-out a b) = omega arith
+pub field-above : (r : Record) (index value : ℕ) → Above (FieldRefused r index value)
+field-above r index value _ _ (index-out a) = omega arith
+field-above r index value _ _ (value-out a b) = omega arith
 
 pub salvage-above : (s : List ℕ) (room : ℕ) → Above (SalvageRefused s room)
 salvage-above s room _ _ (list-over a) = omega arith

@@ -12,7 +12,7 @@ use Rattle.layout.specs.declared.turn.Run.{Run}
 use Rattle.layout.specs.declared.turn.Run.the-variants.{Stopped, Ended}
 use Rattle.layout.specs.declared.record.Record.{Record}
 use Rattle.layout.specs.declared.answer.Standing.{Standing}
-use Rattle.layout.specs.Editions.{held}
+use Rattle.layout.specs.Editions.{held, alike}
 use Rattle.layout.specs.Ranges.{outAt, firstOut}
 use Rattle.layout.specs.Records.{bytesOf, channelOf, editionOf}
 use Rattle.layout.specs.Sdec.{names}
@@ -24,11 +24,12 @@ use Rattle.layout.specs.Voice.{voiceSpan, voiceSpanAt}
 use Rattle.layout.specs.Plays.{playing, whoPlays}
 use Rattle.layout.specs.Edit.{firstEdited, edited}
 use Rattle.layout.proofs.Scans.{first-passed}
+use Rattle.layout.proofs.Editions.{alike-is, unlike-is}
 use Rattle.layout.proofs.Choices.{either}
 use Rattle.law_refusals.specs.Contents.{FirstSuch}
 use Rattle.law_refusals.specs.Body.{BodyRefused, HasGroups}
 use Rattle.law_refusals.specs.After.{HasGroup, GroupAsked, of-body, no-group, RecordsAsked, of-group, no-room, NoPart, PartAsked, part-of-body, no-part}
-use Rattle.law_refusals.specs.After.{PlayersAsked, players-of-body, root-over, type-over, no-players, ChannelAsked, channel-of-group, no-channel, HasChannel, EditAsked, edit-of-channel, other-source, new-byte}
+use Rattle.law_refusals.specs.After.{PlayersAsked, players-of-body, root-over, type-over, no-players, ChannelAsked, channel-of-group, no-channel, HasChannel, EditAsked, edit-of-channel, other-source, other-edition, new-byte}
 use Rattle.law_refusals.proofs.Told.{RunTold, AnswerTold, after-told}
 use Rattle.law_refusals.proofs.Heads.{first-such}
 use Rattle.layout.proofs.Seen.{ctab-seen, ctab-unseen}
@@ -57,7 +58,7 @@ module _ {A : Type 0} (P : ℕ → ℕ → Type 0) (s : List ℕ) where
 
   -- what is asked of the record of a source channel in it
   of-channel-told : (g channel : ℕ) → ((number place : ℕ) → ChannelAsked s g channel number place → P number place) → (ask : Whereabouts → Answer A)
-      → ((row : Whereabouts) → HasChannel s g channel → AnswerTold P (ask row)) → AnswerTold P (ofGroup s g (ofChannel s (standing s g) channel ask))
+      → ((i : ℕ) → HasChannel s g channel → AnswerTold P (ask (rowOf (standing s g) i))) → AnswerTold P (ofGroup s g (ofChannel s (standing s g) channel ask))
   unfolding ofChannel rowIn
   of-channel-told g channel f ask tell =
       let x : Standing = standing s g in
@@ -68,7 +69,7 @@ module _ {A : Type 0} (P : ℕ → ℕ → Type 0) (s : List ℕ) where
       (λ e. f 15 0 (no-channel group (ctab-unseen (x .edition) s (x .ctabs) (x .records) channel (leb-true _ _ e))))
       (λ e.
       let l = leb-false (x .records) i e in
-      tell (rowOf x i) (record { group = group; row = i; within = l; source = ctab-seen (x .edition) s (x .ctabs) (x .records) channel l })))
+      tell i (record { group = group; row = i; within = l; source = ctab-seen (x .edition) s (x .ctabs) (x .records) channel l })))
 
 -- no group has the part
 module _ (s : List ℕ) (n : ℕ) (name : List ℕ) where
@@ -125,19 +126,21 @@ module _ (s : List ℕ) where
   module _ (g channel : ℕ) where
     pub channel-asked : AnswerTold (ChannelAsked s g channel) (channelFound s g channel)
     unfolding channelFound
-    channel-asked = of-channel-told (ChannelAsked s g channel) s g channel (λ number place h. h) (λ row. granted row) (λ row has. tt)
+    channel-asked = of-channel-told (ChannelAsked s g channel) s g channel (λ number place h. h) (λ row. granted row) (λ i has. tt)
 
     pub voice-asked : AnswerTold (ChannelAsked s g channel) (voiceSpan s g channel)
     unfolding voiceSpan
-    voice-asked = of-channel-told (ChannelAsked s g channel) s g channel (λ number place h. h) (λ row. granted (voiceSpanAt s (row .at))) (λ row has. tt)
+    voice-asked = of-channel-told (ChannelAsked s g channel) s g channel (λ number place h. h) (λ row. granted (voiceSpanAt s (row .at))) (λ i has. tt)
 
     pub edit-asked : (new : Record) → AnswerTold (EditAsked s g channel new) (edited s g channel new)
     unfolding edited
     edit-asked new =
         let P = EditAsked s g channel new in
         let k : ℕ = firstEdited new in
-        of-channel-told P s g channel (λ number place h. edit-of-channel number place h) _ (λ row has.
+        of-channel-told P s g channel (λ number place h. edit-of-channel number place h) _ (λ i has.
         either (AnswerTold P) (not (eqb (channelOf new) channel)) _ _ (λ e. other-source has (eqb-false _ _ (not-true _ e))) (λ e.
+        let source = eqb-true (channelOf new) channel (not-false _ e) in
+        either (AnswerTold P) (not (alike (standing s g .edition) (editionOf new))) _ _ (λ u. other-edition has source (unlike-is _ _ (not-true _ u))) (λ u.
         either (AnswerTold P) (ltb k (held (editionOf new))) _ _
-        (λ f. new-byte k has (eqb-true _ _ (not-false _ e)) (edited-byte new k refl (ltb-true _ _ f)))
-        (λ f. tt)))
+        (λ f. new-byte k has source (alike-is _ _ (not-false _ u)) (edited-byte new k refl (ltb-true _ _ f)))
+        (λ f. tt))))

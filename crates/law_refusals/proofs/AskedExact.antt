@@ -23,7 +23,8 @@ use Rattle.layout.proofs.Scans.{first-is, first-none}
 use Rattle.law_refusals.specs.Contents.{FirstSuch}
 use Rattle.law_refusals.specs.Body.{BodyRefused}
 use Rattle.law_refusals.specs.After.{HasGroup, GroupAsked, of-body, no-group, RecordsAsked, of-group, no-room, NoPart, PartAsked, part-of-body, no-part}
-use Rattle.law_refusals.specs.After.{PlayersAsked, players-of-body, root-over, type-over, no-players, ChannelAsked, channel-of-group, no-channel, HasChannel, EditAsked, edit-of-channel, other-source, new-byte}
+use Rattle.law_refusals.specs.After.{PlayersAsked, players-of-body, root-over, type-over, no-players, ChannelAsked, channel-of-group, no-channel, HasChannel, EditAsked, edit-of-channel, other-source, other-edition, new-byte}
+use Rattle.law_refusals.proofs.Reached.{alike-so, alike-not}
 use Rattle.law_refusals.proofs.CtabsExact.{ctab-has, ctab-has-not}
 use Rattle.law_refusals.proofs.BodyExact.{body-answers, body-ended}
 
@@ -114,5 +115,6 @@ module _ (s : List ℕ) where
   unfolding edited
   edit-answers g channel new _ _ (edit-of-channel number place h) = channel-not g channel _ number place h
   edit-answers g channel new _ _ (other-source h f) = channel-so g channel _ h ∙ rw (ne-eqb (channelOf new) channel f)
-  edit-answers g channel new _ _ (new-byte k h e f) =
-      channel-so g channel _ h ∙ rw (eq-eqb (channelOf new) channel e, first-edited new k f, lt-ltb k (held (editionOf new)) (f .within))
+  edit-answers g channel new _ _ (other-edition h e f) = channel-so g channel _ h ∙ rw (eq-eqb (channelOf new) channel e, alike-not (standing s g .edition) (editionOf new) f)
+  edit-answers g channel new _ _ (new-byte k h e q f) =
+      channel-so g channel _ h ∙ rw (eq-eqb (channelOf new) channel e, alike-so (standing s g .edition) (editionOf new) q, first-edited new k f, lt-ltb k (held (editionOf new)) (f .within))

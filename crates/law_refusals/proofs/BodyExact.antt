@@ -8,13 +8,14 @@ use native.Mathlib.Numerals.{add-one}
 use native.Mathlib.Decide.{decLt}
 use lib.ListN.{length, drop}
 use borrow.Author.Tests.{lt-ltb, le-ltb, le-leb, lt-leb, eq-eqb, ne-eqb}
+use Rattle.layout.specs.declared.edition.Edition.{Edition}
 use Rattle.layout.specs.declared.turn.Turn.the-variants.{Refused, More, Done}
 use Rattle.layout.specs.declared.turn.Run.the-variants.{Stopped, Ended}
 use Rattle.layout.specs.declared.turn.Judged.the-variants.{Unsound}
 use Rattle.layout.specs.Bytes.{CSEG}
 use Rattle.layout.specs.Sdec.{shares}
 use Rattle.layout.specs.Group.{headFault, groupAt}
-use Rattle.layout.specs.Body.{groupPlace, textAt, sharing, afterContents, groupTurnAt, groupTurn, bodyRun}
+use Rattle.layout.specs.Body.{groupPlace, textAt, sharing, unlikeBody, afterContents, groupTurnAt, groupTurn, bodyRun}
 use Rattle.layout.proofs.Scans.{first-none, first-passed}
 use Rattle.layout.proofs.Heads.{head-sound}
 use Rattle.layout.proofs.GroupSound.{group-sound-is}
@@ -22,11 +23,12 @@ use Rattle.layout.proofs.HeadsThere.{head-drop}
 use Rattle.layout.proofs.Bodies.{group-there, place-next}
 use Rattle.layout.proofs.Accepted.{body-over, body-within}
 use Rattle.law_refusals.specs.Heads.{HeadRefused}
-use Rattle.law_refusals.specs.Body.{GroupStands, Named, GroupsBefore, BodyRefused, head-refused, too-many, group-refused, name-again, HasGroups}
+use Rattle.law_refusals.specs.Body.{GroupStands, Named, Recorded, GroupsBefore, BodyRefused, head-refused, too-many, group-refused, other-edition, name-again, HasGroups}
 use Rattle.law_refusals.specs.Body as body
 use Rattle.law_refusals.proofs.Above.{head-above}
 use Rattle.law_refusals.proofs.Reached.{run-reaches, run-comes-to, head-is, head-none}
 use Rattle.law_refusals.proofs.Shared.{shared, unshared}
+use Rattle.law_refusals.proofs.Unlike.{Suits, unlike-so, like-so}
 use Rattle.law_refusals.proofs.GroupExact.{group-answers}
 
 module _ (s : List ℕ) where
@@ -65,13 +67,21 @@ module _ (s : List ℕ) where
       unfolding groupTurn groupTurnAt afterContents
       turn-unsound number place l e = rw (ne-eqb at (length s) begun, f, lt-leb 32 k l) (rw (e, afterContents))
 
-      turn-named : k < 32 → GroupStands (drop at s) → sharing s k at < k → groupTurn s k ≡ Refused 13 at
+      turn-other : k < 32 → (e : Edition) (r : Recorded s k e) → unlikeBody s k e (r .ctabs) ≡ true → groupTurn s k ≡ Refused 21 at
       unfolding groupTurn groupTurnAt afterContents
-      turn-named l g h = rw (ne-eqb at (length s) begun, f, lt-leb 32 k l) (rw (g .sound, afterContents) (rw (lt-ltb (sharing s k at) k h)))
+      turn-other l e r h = rw (ne-eqb at (length s) begun, f, lt-leb 32 k l) (rw (r .sound, afterContents) (rw h))
 
-      turn-more : k < 32 → GroupStands (drop at s) → sharing s k at ≡ k → groupTurn s k ≡ More
-      unfolding groupTurn groupTurnAt afterContents
-      turn-more l g h = rw (ne-eqb at (length s) begun, f, lt-leb 32 k l) (rw (g .sound, afterContents) (rw (le-ltb (sharing s k at) k (omega arith))))
+      module _ (l : k < 32) (g : GroupStands (drop at s)) (suits : Suits s k) where
+        like : unlikeBody s k (g .edition) (g .ctabs) ≡ false
+        like = like-so s k (g .edition) (g .text) (g .ctabs) (g .cntts) (g .sound) suits
+
+        turn-named : sharing s k at < k → groupTurn s k ≡ Refused 13 at
+        unfolding groupTurn groupTurnAt afterContents
+        turn-named h = rw (ne-eqb at (length s) begun, f, lt-leb 32 k l) (rw (g .sound, afterContents) (rw (like, lt-ltb (sharing s k at) k h)))
+
+        turn-more : sharing s k at ≡ k → groupTurn s k ≡ More
+        unfolding groupTurn groupTurnAt afterContents
+        turn-more h = rw (ne-eqb at (length s) begun, f, lt-leb 32 k l) (rw (g .sound, afterContents) (rw (like, le-ltb (sharing s k at) k (omega arith))))
 
     turn-end : at ≡ length s → groupTurn s k ≡ Done
     unfolding groupTurn groupTurnAt
@@ -98,7 +108,7 @@ module _ (s : List ℕ) where
     before-more : k ≤ 32 → (i : ℕ) → i < k → groupTurn s i ≡ More
     before-more few i l =
         let g = b .groups i l in
-        turn-more i (sound-head i (groups-within i (omega arith)) g) (omega arith) g (sharing-none i (λ j name h. b .apart j i name h l))
+        turn-more i (sound-head i (groups-within i (omega arith)) g) (omega arith) g (λ h e f m. b .alike h i e f m l) (sharing-none i (λ j name h. b .apart j i name h l))
 
     stopped : (number place : ℕ) → k ≤ 32 → groupTurn s k ≡ Refused number place → bodyRun s ≡ Stopped number place
     stopped number place few t = body-within s (b .short) ∙ run-reaches (groupTurn s) 33 k number place (omega arith) (before-more few) t
@@ -120,8 +130,11 @@ module _ (s : List ℕ) where
   body-answers _ _ (too-many b h) = stopped 32 b 12 (groupPlace s 32) (omega arith) (turn-many 32 (head-none s (groupPlace s 32) CSEG h) (omega arith))
   body-answers _ _ (group-refused k number place b few h r) =
       stopped k b number (groupPlace s k + place) (omega arith) (turn-unsound k (head-none s (groupPlace s k) CSEG h) number place few (group-answers (drop (groupPlace s k) s) number place r))
-  body-answers _ _ (name-again i k name b few g l e f) =
-      stopped k b 13 (groupPlace s k) (omega arith) (turn-named k (sound-head k (groups-within k b k (omega arith)) g) few g (sharing-some i k name l e f))
+  body-answers _ _ (other-edition i k e f b few l a r ne) =
+      let g : GroupStands (drop (groupPlace s k) s) = record { edition = f; text = r .text; ctabs = r .ctabs; cntts = r .cntts; sound = r .sound } in
+      stopped k b 21 (groupPlace s k) (omega arith) (turn-other k (sound-head k (groups-within k b k (omega arith)) g) few f r (unlike-so s k (b .alike) i e f l a r ne))
+  body-answers _ _ (name-again i k name b few g suits l e f) =
+      stopped k b 13 (groupPlace s k) (omega arith) (turn-named k (sound-head k (groups-within k b k (omega arith)) g) few g suits (sharing-some i k name l e f))
 
   pub body-ended : (n : ℕ) → HasGroups s n → bodyRun s ≡ Ended n
   body-ended n h = let few = h .few in body-within s (h .before .short) ∙ run-comes-to (groupTurn s) 33 n (omega arith) (before-more n (h .before) few) (turn-end n (h .cover))

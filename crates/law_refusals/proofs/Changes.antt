@@ -20,7 +20,7 @@ use Rattle.layout.specs.Screen.{fieldSet, changed}
 use Rattle.layout.specs.Promises.{GroupWritten, RecordEdited, FieldSet, FieldSetInPlace, Salvaged}
 use Rattle.law_refusals.specs.Given.{GivenUnder}
 use Rattle.law_refusals.specs.After.{EditAsked}
-use Rattle.law_refusals.specs.Records.{RecordsBefore, PositionsRight, WriteRefused, count-over, text-broken, table-byte, table-again, positions-wrong, buffer-short, FieldRefused, SalvageRefused}
+use Rattle.law_refusals.specs.Records.{RecordsBefore, PositionsRight, WriteRefused, count-over, text-broken, table-edition, table-byte, table-again, positions-wrong, buffer-short, FieldRefused, SalvageRefused}
 use Rattle.law_refusals.proofs.Above.{edit-asked-above}
 use Rattle.law_refusals.proofs.Above.{write-above, field-above, salvage-above}
 use Rattle.law_refusals.proofs.Asked.{edit-asked}
@@ -43,8 +43,9 @@ eighteen : (text : List ℕ) (table : List Record) (count room number place : �
     → (count ≤ length table) × ((soundText text ≡ true) × (RecordsBefore table count × (PositionsRight (take count table) → ⊥)))
 eighteen text table count room _ _ (count-over a) e = absurd (omega arith)
 eighteen text table count room _ _ (text-broken a b) e = absurd (omega arith)
-eighteen text table count room _ _ (table-byte i k a b c d f) e = absurd (omega arith)
-eighteen text table count room _ _ (table-again j i a b c d f g h) e = absurd (omega arith)
+eighteen text table count room _ _ (table-edition i a b c d f) e = absurd (omega arith)
+eighteen text table count room _ _ (table-byte i k a b c d f g) e = absurd (omega arith)
+eighteen text table count room _ _ (table-again j i a b c d f g h m) e = absurd (omega arith)
 eighteen text table count room _ _ (positions-wrong a b c d) e = (a, (b, (c, d)))
 eighteen text table count room _ _ (buffer-short a b c d f) e = absurd (omega arith)
 
@@ -61,17 +62,17 @@ edit-given before g channel new r after p =
     given (EditAsked before g channel new) (edit-asked-above before g channel new) (edited before g channel new) (edit-asked before g channel new) (edit-answers before g channel new) (r .number) (r .place)
     (ap (λ (x : Answered). x .number) (p .answer)) (ap (λ (x : Answered). x .place) (p .answer))
 
-pub field-given : (old : Record) (index value : ℕ) (r : Changed) → FieldSet old index value r → GivenUnder (FieldRefused index value) (r .number) (r .place)
+pub field-given : (old : Record) (index value : ℕ) (r : Changed) → FieldSet old index value r → GivenUnder (FieldRefused old index value) (r .number) (r .place)
 unfolding changed
 field-given old index value r p =
-    given (FieldRefused index value) (field-above index value) (fieldSet old index value) (field-told old index value) (field-answers old index value) (r .number) (r .place)
+    given (FieldRefused old index value) (field-above old index value) (fieldSet old index value) (field-told old index value) (field-answers old index value) (r .number) (r .place)
     (ap (λ (x : Changed). x .number) p) (ap (λ (x : Changed). x .place) p)
 
 pub field-in-place-given : (before : Record) (index value : ℕ) (r : Answered) (after : Record) → FieldSetInPlace before index value r after
-    → GivenUnder (FieldRefused index value) (r .number) (r .place)
+    → GivenUnder (FieldRefused before index value) (r .number) (r .place)
 unfolding answered
 field-in-place-given before index value r after p =
-    given (FieldRefused index value) (field-above index value) (fieldSet before index value) (field-told before index value) (field-answers before index value) (r .number) (r .place)
+    given (FieldRefused before index value) (field-above before index value) (fieldSet before index value) (field-told before index value) (field-answers before index value) (r .number) (r .place)
     (ap (λ (x : Answered). x .number) (p .answer)) (ap (λ (x : Answered). x .place) (p .answer))
 
 pub salvage-given : (s before : List ℕ) (r : Counted) (after : List ℕ) → Salvaged s before r after → GivenUnder (SalvageRefused s (length before)) (r .number) (r .place)

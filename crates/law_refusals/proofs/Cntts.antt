@@ -16,12 +16,12 @@ use Rattle.layout.specs.Group.{headFault, ctabOf, cnttChannel, cnttOf, cnttFaul
 use Rattle.layout.proofs.Seen.{ctab-seen, ctab-unseen, cntt-seen, cntt-unseen}
 use Rattle.layout.proofs.Cntts.{channel-in, no-fault, CnttMore, cntt-turn-more, cntt-fits}
 use Rattle.layout.proofs.Choices.{either}
-use Rattle.law_refusals.specs.Contents.{ctabTag, cnttTag, cnttSource, CtabsBefore, CnttInRange, CnttStands, CnttsBefore}
+use Rattle.law_refusals.specs.Contents.{ctabTag, cnttTag, cnttSource, OfEdition, CtabsBefore, CnttInRange, CnttStands, CnttsBefore}
 use Rattle.law_refusals.specs.Contents.{ContentsRefused, cntt-head, cntt-size, cntt-channel, cntt-value, cntt-again, cntt-stray}
 use Rattle.law_refusals.proofs.Told.{TurnTold, RunTold, run-told}
 use Rattle.law_refusals.proofs.Heads.{head-told, headed}
 
-module _ (c : List ℕ) (n : ℕ) (ctabs : CtabsBefore First c n) (over : ctabTag First c n < length c → (ctabTag First c n + 8 ≤ length c) × (tagAt c (ctabTag First c n) ≡ Cntt)) (within : ctabTag First c n ≤ length c) where
+module _ (c : List ℕ) (n : ℕ) (own : OfEdition c First) (ctabs : CtabsBefore First c n) (over : ctabTag First c n < length c → (ctabTag First c n + 8 ≤ length c) × (tagAt c (ctabTag First c n) ≡ Cntt)) (within : ctabTag First c n ≤ length c) where
   -- where the Ctabs begin, and where the Cntts do
   abbrev p : ℕ
   p = 8 + word c 4
@@ -33,7 +33,7 @@ module _ (c : List ℕ) (n : ℕ) (ctabs : CtabsBefore First c n) (over : ctabTa
   Kept j = (cnttTag c n j ≤ length c) × CnttsBefore c n j
 
   start : Kept 0
-  start = (omega arith, record { ctabs = ctabs; over = over; cntts = λ i h. absurd (omega arith) })
+  start = (omega arith, record { first = own; ctabs = ctabs; over = over; cntts = λ i h. absurd (omega arith) })
 
   stands : (j : ℕ) → CnttMore c p n q j (cnttTag c n j) → CnttStands c n j
   unfolding cnttChannel
@@ -55,7 +55,7 @@ module _ (c : List ℕ) (n : ℕ) (ctabs : CtabsBefore First c n) (over : ctabTa
   next : (j : ℕ) → Kept j → cnttTurn c p n q j ≡ More → Kept (j + 1)
   next j held m =
       let more = cntt-turn-more c p n q j m in
-      (omega (arith, cntt-fits c p n q j (cnttTag c n j) more), record { ctabs = ctabs; over = over; cntts = λ i h. go i more (decLt i j) h })
+      (omega (arith, cntt-fits c p n q j (cnttTag c n j) more), record { first = own; ctabs = ctabs; over = over; cntts = λ i h. go i more (decLt i j) h })
     where
       go : (i : ℕ) → CnttMore c p n q j (cnttTag c n j) → Dec (i < j) → i < j + 1 → CnttStands c n i
       go i more (yes a) h = held .1 .cntts i a

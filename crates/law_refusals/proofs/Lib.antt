@@ -6,6 +6,7 @@ pub mod Ctabs
 pub mod Cntts
 pub mod Groups
 pub mod Shared
+pub mod Unlike
 pub mod Bodies
 pub mod Asked
 pub mod Records
@@ -22,6 +23,7 @@ pub mod GroupExact
 pub mod BodyExact
 pub mod AskedExact
 pub mod RecordsExact
+pub mod PlacedBySet
 pub mod Given
 pub mod Calls
 pub mod Changes

@@ -10,7 +10,7 @@ use Rattle.layout.specs.Scan.{first}
 use Rattle.layout.specs.declared.record.SecondTable.{SecondTable}
 use Rattle.layout.specs.declared.record.SecondTable.the-variants.{Absent, Value}
 use Rattle.layout.specs.declared.record.Record.{Record}
-use Rattle.layout.specs.Records.{blank}
+use Rattle.layout.specs.Records.{blank, secondIn}
 use Rattle.layout.specs.Write.{cnttCount, atPosition, wrongPosition, wrongPositions}
 use Rattle.layout.proofs.Scans.{first-passed, first-none}
 use Rattle.layout.proofs.Positions.{Positions, positions-right, right-positions, position-taken, placed-is}
@@ -68,7 +68,7 @@ module _ (rs : List Record) where
                 let i : ℕ = atPosition rs (length rs) k in
                 let l : i < length rs = position-taken rs p k a b in
                 let x = placed-is rs (length rs) k l in
-                let second = value-is (getD rs i blank .second) (x .0) in
+                let second = value-is (secondIn (getD rs i blank)) (x .0) in
                 (i, (l, (second .0, (second .1, x .1))));
           }
 

@@ -6,12 +6,15 @@ use mathlib.Core.List.{List}
 use native.Mathlib.Omega.{arith}
 use native.Mathlib.Numerals.{add-one}
 use Rattle.layout.specs.Scan.{first, run}
+use Rattle.layout.specs.declared.edition.Edition.{Edition}
+use Rattle.layout.specs.Editions.{alike}
 use Rattle.layout.specs.declared.turn.Turn.{Turn}
 use Rattle.layout.specs.declared.turn.Turn.the-variants.{Refused, More, Done}
 use Rattle.layout.specs.declared.turn.Run.the-variants.{Stopped, Ended}
 use Rattle.layout.specs.Bytes.{tagAt, tagged}
 use Rattle.layout.specs.Group.{headFault}
 use Rattle.layout.proofs.Scans.{first-is}
+use Rattle.layout.proofs.Editions.{alike-self, alike-is}
 use Rattle.layout.proofs.Runs.{run-more, run-stop, run-done}
 use Rattle.layout.proofs.Same.{same-itself}
 use Rattle.layout.proofs.Heads.{fault-cut, fault-tag, fault-past, fault-none}
@@ -51,6 +54,18 @@ module _ (s : List ℕ) (at : ℕ) (tag : List ℕ) where
 
   pub head-none : Headed s at tag → headFault s at tag ≡ 0
   head-none h = let w = h .within in fault-none s at tag (omega arith) (tagged-so (h .tagged)) w
+
+-- two editions
+module _ (e f : Edition) where
+  pub alike-so : e ≡ f → alike e f ≡ true
+  alike-so q = rw q (alike-self f)
+
+  pub alike-not : (e ≡ f → ⊥) → alike e f ≡ false
+  alike-not n = go (alike e f) refl
+    where
+      go : (b : Bool) → alike e f ≡ b → b ≡ false
+      go true q = absurd (n (alike-is e f q))
+      go false q = refl
 
 -- the first that passes a test
 pub such-first : (test : ℕ → Bool) (n k : ℕ) → FirstSuch test n k → first test 0 n ≡ k

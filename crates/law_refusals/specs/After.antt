@@ -1,10 +1,10 @@
--- When a question about a body is refused (document 01, "Numbers of refusal": "after the body: 16 for numbers, 15, then an edit's source channel 16, then 9"; "room (14) comes last in every call").
+-- When a question about a body is refused (document 01, "Numbers of refusal": "after the body: 16 for numbers, 15, then an edit's source channel 16, then 9"; "room (14) comes last in every call"; document 02, §4: 21).
 use Prim.Native.Nat.{ℕ, _<_, _≤_}
 use mathlib.Core.Path.{_≡_}
 use mathlib.Core.List.{List}
 use lib.ListN.{length}
 use Rattle.layout.specs.declared.record.Record.{Record}
-use Rattle.layout.specs.Refusals.{outOfRange, noRoom, notThere, badNumber}
+use Rattle.layout.specs.Refusals.{outOfRange, noRoom, notThere, badNumber, otherEdition}
 use Rattle.layout.specs.Editions.{held}
 use Rattle.layout.specs.Ranges.{outAt}
 use Rattle.layout.specs.Records.{bytesOf, channelOf, editionOf}
@@ -80,6 +80,8 @@ pub data EditAsked (s : List ℕ) (g channel : ℕ) (new : Record) : ℕ → ℕ
   edit-of-channel : (number place : ℕ) → ChannelAsked s g channel number place → EditAsked s g channel new number place
   -- 16: "an edit with another source channel", at 0
   other-source : HasChannel s g channel → (channelOf new ≡ channel → ⊥) → EditAsked s g channel new badNumber 0
+  -- 21: "an edit's record unlike the body's", at 0
+  other-edition : HasChannel s g channel → channelOf new ≡ channel → (standing s g .edition ≡ editionOf new → ⊥) → EditAsked s g channel new otherEdition 0
   -- 9: "byte out of range, first one"; "in an edit .. it is the byte"; "a Cntt given with the new record is neither read nor checked"
-  new-byte : (k : ℕ) → HasChannel s g channel → channelOf new ≡ channel → FirstSuch (outAt (editionOf new) (bytesOf new) 0) (held (editionOf new)) k
+  new-byte : (k : ℕ) → HasChannel s g channel → channelOf new ≡ channel → standing s g .edition ≡ editionOf new → FirstSuch (outAt (editionOf new) (bytesOf new) 0) (held (editionOf new)) k
       → EditAsked s g channel new outOfRange k

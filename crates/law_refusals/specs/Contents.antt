@@ -6,13 +6,13 @@ use mathlib.Core.Bool.{Bool, true, false}
 use mathlib.Core.List.{List}
 use lib.ListN.{length, getD, take, drop}
 use Rattle.layout.specs.Bytes.{word, tagAt, Sdec, Cntt}
-use Rattle.layout.specs.Refusals.{badSize, badText, outOfRange, channelAgain, strayCntt}
+use Rattle.layout.specs.Refusals.{badTag, badSize, badText, outOfRange, channelAgain, strayCntt}
 use Rattle.layout.specs.declared.edition.Edition.{Edition}
-use Rattle.layout.specs.declared.edition.Edition.the-variants.{First}
+use Rattle.layout.specs.declared.edition.Edition.the-variants.{First, Second}
 use Rattle.layout.specs.Editions.{tagOf, size}
 use Rattle.layout.specs.Ranges.{outOf, outAt, cnttValue}
 use Rattle.layout.specs.Sdec.{soundText}
-use Rattle.layout.specs.Group.{ctabPlace, ctabChannel, cnttPlace, cnttChannel}
+use Rattle.layout.specs.Group.{ctabPlace, ctabChannel, cnttPlace, cnttChannel, editionAt}
 use Rattle.law_refusals.specs.Heads.{HeadRefused, Headed}
 use Rattle.law_refusals.specs.Text.{TextBroken}
 
@@ -43,6 +43,10 @@ module _ (c : List ℕ) where
   cnttSource n j = cnttChannel c (ctabTag First c n) j
 
 -- ---- the children before
+
+-- the records behind the Sdec are of this edition
+abbrev pub OfEdition : List ℕ → Edition → Type 0
+OfEdition c e = editionAt c (8 + word c 4) ≡ e
 
 -- Ctab number n: its header, its size, its bytes in range
 pub record CtabInRange (e : Edition) (c : List ℕ) (n : ℕ) : Type 0 where
@@ -76,6 +80,7 @@ pub record CnttStands (c : List ℕ) (n j : ℕ) : Type 0 where
 
 -- a sound Sdec, then n Ctabs and no more, then j Cntts
 pub record CnttsBefore (c : List ℕ) (n j : ℕ) : Type 0 where
+  pub first : OfEdition c First
   pub ctabs : CtabsBefore First c n
   pub over : ctabTag First c n < length c → (ctabTag First c n + 8 ≤ length c) × (tagAt c (ctabTag First c n) ≡ Cntt)
   pub cntts : (i : ℕ) → i < j → CnttStands c n i
@@ -87,7 +92,7 @@ pub data CtabRefused (e : Edition) (c : List ℕ) : ℕ → ℕ → Type 0 where
   -- 2, 6, 2: a child's header after n Ctabs, at its tag; it is no Cntt
   ctab-head : (n number : ℕ) → CtabsBefore e c n → ctabTag e c n < length c → (ctabTag e c n + 8 ≤ length c → tagAt c (ctabTag e c n) ≡ Cntt → ⊥)
       → HeadRefused c (ctabTag e c n) (tagOf e) number → CtabRefused e c number (ctabTag e c n)
-  -- 7: "Ctab not 27", at its tag
+  -- 7: "Ctab not 27"; "7 when not 47" (document 02, §4), at its tag
   ctab-size : (n : ℕ) → CtabsBefore e c n → Headed c (ctabTag e c n) (tagOf e) → (word c (ctabTag e c n + 4) ≡ size e → ⊥) → CtabRefused e c badSize (ctabTag e c n)
   -- 9: "byte out of range, first one", at the byte
   ctab-byte : (n k : ℕ) → CtabsBefore e c n → Headed c (ctabTag e c n) (tagOf e) → word c (ctabTag e c n + 4) ≡ size e
@@ -101,7 +106,10 @@ pub data ContentsRefused (c : List ℕ) : ℕ → ℕ → Type 0 where
   -- 8: "a rule on one Sdec's length, bytes or names broken", at the Sdec tag
   sdec-text : Headed c 0 Sdec → TextBroken (take (word c 4) (drop 8 c)) → ContentsRefused c badText 0
   -- a refusal of a Ctab
-  of-ctab : (number place : ℕ) → CtabRefused First c number place → ContentsRefused c number place
+  of-ctab : (e : Edition) (number place : ℕ) → OfEdition c e → CtabRefused e c number place → ContentsRefused c number place
+  -- 6: "6 for a Ctb2 beside a .. Cntt in a group" (document 02, §4): a Cntt after n Ctb2s, at its tag
+  ctb2-cntt : (n : ℕ) → OfEdition c Second → CtabsBefore Second c n → ctabTag Second c n + 8 ≤ length c → tagAt c (ctabTag Second c n) ≡ Cntt
+      → ContentsRefused c badTag (ctabTag Second c n)
   -- 2, 6, 2: a child's header after n Ctabs and j Cntts, at its tag
   cntt-head : (n j number : ℕ) → CnttsBefore c n j → cnttTag c n j < length c → HeadRefused c (cnttTag c n j) Cntt number → ContentsRefused c number (cnttTag c n j)
   -- 7: "Cntt not 2", at its tag

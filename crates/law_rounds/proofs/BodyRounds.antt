@@ -12,8 +12,8 @@ use Rattle.layout.specs.declared.turn.Turn.the-variants.{More}
 use Rattle.layout.specs.declared.turn.Run.the-variants.{Ended}
 use Rattle.layout.specs.Sdec.{shares}
 use Rattle.layout.specs.Group.{payload, groupSize, Group, groupOf}
-use Rattle.layout.specs.Body.{groupPlace, textAt, sharing, groupTurn, bodyRun, noGroup, groupValue, groupNo}
-use Rattle.layout.specs.Write.{groupBytes, Allowed}
+use Rattle.layout.specs.Body.{groupPlace, textAt, sharing, unlikeBody, recordsOf, editionIn, groupTurn, bodyRun, noGroup, groupValue, groupNo}
+use Rattle.layout.specs.Write.{groupBytes, firstEdition, Allowed}
 use Rattle.layout.proofs.Scans.{first-passed, first-none}
 use Rattle.layout.proofs.Groups.{cseg-tag}
 use Rattle.layout.proofs.Bodies.{turn-end, turn-sound}
@@ -24,7 +24,8 @@ use Rattle.layout.proofs.Lists.{rows-length, getD-rows}
 use Rattle.law_rounds.proofs.Blocks.{moved, rows-is, blocks-read, blocks-written}
 use Rattle.law_rounds.proofs.Chunks.{bytes-drop}
 use Rattle.law_rounds.proofs.GroupRounds.{group-allowed, group-back}
-use Rattle.law_rounds.proofs.GroupThere.{there-sound, there-size, there-value, there-fits, there-ends, there-head, there-text}
+use Rattle.law_rounds.proofs.BodyEditions.{editionNo, recordsNo, one-edition, none-unlike}
+use Rattle.law_rounds.proofs.GroupThere.{there-sound, there-edition, there-count, there-size, there-value, there-fits, there-ends, there-head, there-text}
 
 -- ---- read
 
@@ -55,6 +56,21 @@ module _ (s : List ℕ) (n : ℕ) (b : Bytes s) (h : Accepted s n) where
       let w : j ≤ first (λ i. shares (textAt s (groupPlace s i)) (textAt s (groupPlace s j))) 0 j = ltb-false _ _ (h .each j l .apart) in
       rw (text-of i (omega arith), text-of j l) at (first-passed (λ i. shares (textAt s (groupPlace s i)) (textAt s (groupPlace s j))) j i (omega arith))
 
+  -- groups with records are of one edition
+  edition-of : (i : ℕ) → i < n → editionNo s i ≡ firstEdition (groupNo s i .records)
+  edition-of i l = there-edition s (groupPlace s i) (groupNo s i) _ (bytes-of i l) (allowed-of i l)
+
+  count-of : (i : ℕ) → i < n → recordsNo s i ≡ length (groupNo s i .records)
+  count-of i l = there-count s (groupPlace s i) (groupNo s i) _ (bytes-of i l) (allowed-of i l)
+
+  like-of : (i : ℕ) → i < n → unlikeBody s i (editionNo s i) (recordsNo s i) ≡ false
+  unfolding editionIn recordsOf
+  like-of i l = ap₂ (unlikeBody s i) (ap editionIn (h .each i l .sound)) (ap recordsOf (h .each i l .sound)) ∙ h .each i l .like
+
+  editions-of : (i j : ℕ) → i < n → j < n → 0 < length (groupNo s i .records) → 0 < length (groupNo s j .records) → firstEdition (groupNo s i .records) ≡ firstEdition (groupNo s j .records)
+  editions-of i j k l a b =
+      sym (edition-of i k) ∙ one-edition s n like-of i j k l (omega (arith, count-of i k)) (omega (arith, count-of j l)) ∙ edition-of j l
+
   pub body-back : flatMap groupBytes (groupsOf s n) ≡ s
   unfolding groupPlace
   body-back =
@@ -66,9 +82,11 @@ module _ (s : List ℕ) (n : ℕ) (b : Bytes s) (h : Accepted s n) where
   body-allowed =
       let below : (i : ℕ) → i < length (groupsOf s n) → i < n = λ i u. rw rows-length at u in
       let at : (i : ℕ) → i < length (groupsOf s n) → getD (groupsOf s n) i noGroup ≡ groupNo s i = λ i u. getD-rows (groupNo s) noGroup n i (below i u) in
+      let count : (i : ℕ) → i < length (groupsOf s n) → length (getD (groupsOf s n) i noGroup .records) ≡ length (groupNo s i .records) = λ i u. ap (λ (g : Group). length (g .records)) (at i u) in
       record {
         each = λ i u. rw (at i u) (allowed-of i (below i u));
         few = omega (arith, rows-length (groupNo s) 0 n, h .few);
+        editions = λ i j u v x y. rw (at i u, at j v) (editions-of i j (below i u) (below j v) (omega (arith, count i u)) (omega (arith, count j v)));
         apart = λ i j u v. rw (at i (omega arith), at j v) (apart-of i j u (below j v));
         short = rw body-back (h .short);
       }
@@ -115,6 +133,17 @@ module _ (gs : List Group) (a : BodyAllowed gs) where
   text-at : (i : ℕ) → i < length gs → textAt s (groupPlace s i) ≡ getD gs i noGroup .text
   text-at i l = there-text s (groupPlace s i) (getD gs i noGroup) (later i) (stand .0 i l) (a .each i l)
 
+  edition-at : (i : ℕ) → i < length gs → editionNo s i ≡ firstEdition (getD gs i noGroup .records)
+  edition-at i l = there-edition s (groupPlace s i) (getD gs i noGroup) (later i) (stand .0 i l) (a .each i l)
+
+  count-at : (i : ℕ) → i < length gs → recordsNo s i ≡ length (getD gs i noGroup .records)
+  count-at i l = there-count s (groupPlace s i) (getD gs i noGroup) (later i) (stand .0 i l) (a .each i l)
+
+  like : (i : ℕ) → i < length gs → unlikeBody s i (firstEdition (getD gs i noGroup .records)) (length (getD gs i noGroup .records)) ≡ false
+  like i l =
+      ap₂ (unlikeBody s i) (sym (edition-at i l)) (sym (count-at i l))
+      ∙ none-unlike s (length gs) (λ i j u v x y. edition-at i u ∙ a .editions i j u v (omega (arith, count-at i u)) (omega (arith, count-at j v)) ∙ sym (edition-at j v)) i l
+
   turn : (i : ℕ) → i < length gs → groupTurn s i ≡ More
   unfolding groupTurn sharing
   turn i l =
@@ -123,8 +152,8 @@ module _ (gs : List Group) (a : BodyAllowed gs) where
       let fits = there-fits s at g (later i) (stand .0 i l) (a .each i l) in
       let none : first (λ k. shares (textAt s (groupPlace s k)) (textAt s at)) 0 i ≡ i =
       first-none (λ k. shares (textAt s (groupPlace s k)) (textAt s at)) i (λ k u. rw (text-at k (omega arith), text-at i l) (a .apart k i u l)) in
-      turn-sound s i at (omega arith) 0 (sym (rw cseg-tag (there-head s at g (later i) (stand .0 i l) (a .each i l)))) refl (omega (arith, a .few)) _ _ _ _ false
-      (there-sound s at g (later i) (stand .0 i l) (a .each i l)) (rw none (le-ltb i i (omega arith)))
+      turn-sound s i at (omega arith) 0 (sym (rw cseg-tag (there-head s at g (later i) (stand .0 i l) (a .each i l)))) refl (omega (arith, a .few)) _ _ _ _
+      (there-sound s at g (later i) (stand .0 i l) (a .each i l)) false (like i l) (rw none (le-ltb i i (omega arith)))
 
   pub body-run : bodyRun (flatMap groupBytes gs) ≡ Ended (length gs)
   unfolding s groupTurn

@@ -78,7 +78,7 @@ module _ (s : List ℕ) (at : ℕ) (tag b x : List ℕ) (four-bytes : length tag
   unfolding chunk
   spread = e ∙ append-assoc tag (four (length b) ++ b) x ∙ ap (λ y. tag ++ y) (append-assoc (four (length b)) b x)
 
-  written-tag : tagged s at tag ≡ true
+  pub written-tag : tagged s at tag ≡ true
   unfolding tagged tagAt
   written-tag = ap (λ y. same y tag) (ap (take 4) spread ∙ take-at tag (four (length b) ++ (b ++ x)) 4 four-bytes) ∙ same-itself tag
 

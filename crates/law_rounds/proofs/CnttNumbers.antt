@@ -15,7 +15,7 @@ use Rattle.layout.specs.Bytes.{Cntt}
 use Rattle.layout.specs.declared.record.Record.{Record}
 use Rattle.layout.specs.declared.record.SecondTable.{SecondTable}
 use Rattle.layout.specs.declared.record.SecondTable.the-variants.{Absent, Value}
-use Rattle.layout.specs.Records.{blank, channelOf}
+use Rattle.layout.specs.Records.{blank, channelOf, secondIn, positionIn}
 use Rattle.layout.specs.Write.{cnttBytes, cnttCount, cnttsIn, atPosition, cnttOn, cnttsBytes}
 use Rattle.layout.proofs.Lists.{rows-length, getD-rows}
 use Rattle.layout.proofs.Pigeonhole.{pigeonhole}
@@ -26,15 +26,15 @@ use Rattle.law_rounds.proofs.Chunks.{length-chunk}
 
 -- the Cntt that a record writes, where it has one
 abbrev pub ownCntt : Record → List ℕ
-ownCntt r = cnttBytes (channelOf r) (r .second)
+ownCntt r = cnttBytes (channelOf r) (secondIn r)
 
 -- each number is that of a record with a Cntt, no such record is left out, and the others have position 0
 pub record CnttNumbers (rs : List Record) (m : ℕ) (home : ℕ → ℕ) : Type 0 where
   pub within : (j : ℕ) → j < m → home j < length rs
-  pub has : (j : ℕ) → j < m → cnttCount (getD rs (home j) blank .second) ≡ 1
-  pub at : (j : ℕ) → j < m → getD rs (home j) blank .position ≡ j + 1
-  pub complete : (i : ℕ) → i < length rs → cnttCount (getD rs i blank .second) ≡ 1 → (j : ℕ) × (j < m) × (home j ≡ i)
-  pub none : (i : ℕ) → i < length rs → cnttCount (getD rs i blank .second) ≡ 0 → getD rs i blank .position ≡ 0
+  pub has : (j : ℕ) → j < m → cnttCount (secondIn (getD rs (home j) blank)) ≡ 1
+  pub at : (j : ℕ) → j < m → positionIn (getD rs (home j) blank) ≡ j + 1
+  pub complete : (i : ℕ) → i < length rs → cnttCount (secondIn (getD rs i blank)) ≡ 1 → (j : ℕ) × (j < m) × (home j ≡ i)
+  pub none : (i : ℕ) → i < length rs → cnttCount (secondIn (getD rs i blank)) ≡ 0 → positionIn (getD rs i blank) ≡ 0
 
 one-value : (o : SecondTable) → cnttCount o ≡ 1 → (v : ℕ) × (o ≡ Value v)
 unfolding cnttCount
@@ -49,7 +49,7 @@ length-value channel v = length-chunk Cntt (channel ∷ v ∷ []) refl
 pub record CnttThere (s : List ℕ) (at : ℕ) (r : Record) : Type 0 where
   pub value : ℕ
   pub behind : List ℕ
-  pub second : r .second ≡ Value value
+  pub second : secondIn r ≡ Value value
   pub bytes : drop at s ≡ cnttBytes (channelOf r) (Value value) ++ behind
 
 -- it is the 10 bytes there
@@ -68,13 +68,13 @@ positions-number rs p =
       within = taken;
       has = λ j l. placed-is rs (length rs) (j + 1) (taken j l) .0;
       at = λ j l. placed-is rs (length rs) (j + 1) (taken j l) .1;
-      complete = λ i l e. let w = p .within i l e in (getD rs i blank .position - 1, omega arith, ap (atPosition rs (length rs)) (omega arith) ∙ position-own rs p i l e);
+      complete = λ i l e. let w = p .within i l e in (positionIn (getD rs i blank) - 1, omega arith, ap (atPosition rs (length rs)) (omega arith) ∙ position-own rs p i l e);
       none = p .none;
     }
 
 -- records with the same second tables and positions have the same numbers
-pub numbers-kept : (rs ss : List Record) (m : ℕ) (home : ℕ → ℕ) → length ss ≡ length rs → ((i : ℕ) → i < length rs → getD ss i blank .second ≡ getD rs i blank .second)
-    → ((i : ℕ) → i < length rs → getD ss i blank .position ≡ getD rs i blank .position) → CnttNumbers rs m home → CnttNumbers ss m home
+pub numbers-kept : (rs ss : List Record) (m : ℕ) (home : ℕ → ℕ) → length ss ≡ length rs → ((i : ℕ) → i < length rs → secondIn (getD ss i blank) ≡ secondIn (getD rs i blank))
+    → ((i : ℕ) → i < length rs → positionIn (getD ss i blank) ≡ positionIn (getD rs i blank)) → CnttNumbers rs m home → CnttNumbers ss m home
 numbers-kept rs ss m home e s q c =
     record {
       within = λ j l. rw e (c .within j l);
@@ -86,8 +86,8 @@ numbers-kept rs ss m home e s q c =
 
 -- records by their number: those that are homes have a Cntt and its position, and the others have none
 pub rows-number : (row : ℕ → Record) (n m : ℕ) (home : ℕ → ℕ) → ((j : ℕ) → j < m → home j < n)
-    → ((j : ℕ) → j < m → (cnttCount (row (home j) .second) ≡ 1) × (row (home j) .position ≡ j + 1))
-    → ((i : ℕ) → i < n → ((j : ℕ) → j < m → home j ≡ i → ⊥) → (cnttCount (row i .second) ≡ 0) × (row i .position ≡ 0)) → CnttNumbers (rows row 0 n) m home
+    → ((j : ℕ) → j < m → (cnttCount (secondIn (row (home j))) ≡ 1) × (positionIn (row (home j)) ≡ j + 1))
+    → ((i : ℕ) → i < n → ((j : ℕ) → j < m → home j ≡ i → ⊥) → (cnttCount (secondIn (row i)) ≡ 0) × (positionIn (row i) ≡ 0)) → CnttNumbers (rows row 0 n) m home
 rows-number row n m home within one other =
     record {
       within = λ j l. rw rows-length (within j l);
@@ -100,18 +100,18 @@ rows-number row n m home within one other =
     at : (i : ℕ) → i < n → getD (rows row 0 n) i blank ≡ row i
     at i l = getD-rows row blank n i l
 
-    found-home : (i : ℕ) → i < n → ((j : ℕ) × (j < m) × (home j ≡ i)) ⊎ ((j : ℕ) → j < m → home j ≡ i → ⊥) → cnttCount (row i .second) ≡ 1 → (j : ℕ) × (j < m) × (home j ≡ i)
+    found-home : (i : ℕ) → i < n → ((j : ℕ) × (j < m) × (home j ≡ i)) ⊎ ((j : ℕ) → j < m → home j ≡ i → ⊥) → cnttCount (secondIn (row i)) ≡ 1 → (j : ℕ) × (j < m) × (home j ≡ i)
     found-home i l (inl x) e = x
     found-home i l (inr d) e = absurd (omega (arith, other i l d .0))
 
-    no-home : (i : ℕ) → i < n → ((j : ℕ) × (j < m) × (home j ≡ i)) ⊎ ((j : ℕ) → j < m → home j ≡ i → ⊥) → cnttCount (row i .second) ≡ 0 → row i .position ≡ 0
-    no-home i l (inl x) e = absurd (omega (arith, one (x .0) (x .1) .0, ap (λ k. cnttCount (row k .second)) (x .2)))
+    no-home : (i : ℕ) → i < n → ((j : ℕ) × (j < m) × (home j ≡ i)) ⊎ ((j : ℕ) → j < m → home j ≡ i → ⊥) → cnttCount (secondIn (row i)) ≡ 0 → positionIn (row i) ≡ 0
+    no-home i l (inl x) e = absurd (omega (arith, one (x .0) (x .1) .0, ap (λ k. cnttCount (secondIn (row k))) (x .2)))
     no-home i l (inr d) e = other i l d .1
 
 module _ (rs : List Record) (m : ℕ) (home : ℕ → ℕ) (c : CnttNumbers rs m home) where
   -- no two numbers have one home, which has one position
   pub homes-apart : (i j : ℕ) → i < j → j < m → home i ≡ home j → ⊥
-  homes-apart i j k l e = omega (arith, c .at i (omega arith), c .at j l, ap (λ x. getD rs x blank .position) e)
+  homes-apart i j k l e = omega (arith, c .at i (omega arith), c .at j l, ap (λ x. positionIn (getD rs x blank)) e)
 
   many : m ≤ cnttsIn rs
   many =
@@ -131,8 +131,8 @@ module _ (rs : List Record) (m : ℕ) (home : ℕ → ℕ) (c : CnttNumbers rs m
             omega (arith, sym (x .2) ∙ ap home z ∙ y .2);
       }
     where
-      position-is : (i : ℕ) (l : i < length rs) (e : cnttCount (getD rs i blank .second) ≡ 1) → getD rs i blank .position ≡ c .complete i l e .0 + 1
-      position-is i l e = let x = c .complete i l e in ap (λ k. getD rs k blank .position) (sym (x .2)) ∙ c .at (x .0) (x .1)
+      position-is : (i : ℕ) (l : i < length rs) (e : cnttCount (secondIn (getD rs i blank)) ≡ 1) → positionIn (getD rs i blank) ≡ c .complete i l e .0 + 1
+      position-is i l e = let x = c .complete i l e in ap (λ k. positionIn (getD rs k blank)) (sym (x .2)) ∙ c .at (x .0) (x .1)
 
   pub counted : cnttsIn rs ≡ m
   counted = go (decLt 0 (cnttsIn rs))
@@ -142,7 +142,7 @@ module _ (rs : List Record) (m : ℕ) (home : ℕ → ℕ) (c : CnttNumbers rs m
           let t = position-taken rs numbers-right (cnttsIn rs) d (omega arith) in
           let x = placed-is rs (length rs) (cnttsIn rs) t in
           let y = c .complete (atPosition rs (length rs) (cnttsIn rs)) t (x .0) in
-          omega (arith, many, x .1, c .at (y .0) (y .1), ap (λ k. getD rs k blank .position) (y .2))
+          omega (arith, many, x .1, c .at (y .0) (y .1), ap (λ k. positionIn (getD rs k blank)) (y .2))
       go (no d) = omega (arith, many)
 
   -- ---- their bytes
@@ -165,7 +165,7 @@ module _ (rs : List Record) (m : ℕ) (home : ℕ → ℕ) (c : CnttNumbers rs m
   length-own : (j : ℕ) → j < length (rows (λ j. getD rs (home j) blank) 0 m) → length (ownCntt (getD (rows (λ j. getD rs (home j) blank) 0 m) j blank)) ≡ 10
   length-own j l =
       let k : j < m = rw rows-length at l in
-      let v = one-value (getD rs (home j) blank .second) (c .has j k) in
+      let v = one-value (secondIn (getD rs (home j) blank)) (c .has j k) in
       rw (ranked j k, v .1) (length-value (channelOf (getD rs (home j) blank)) (v .0))
 
   pub length-cntts : length (cnttsBytes rs) ≡ 10 * m
@@ -174,7 +174,7 @@ module _ (rs : List Record) (m : ℕ) (home : ℕ → ℕ) (c : CnttNumbers rs m
 
   pub cntts-there : (s : List ℕ) (at : ℕ) (y : List ℕ) → drop at s ≡ cnttsBytes rs ++ y → (j : ℕ) → j < m → CnttThere s (at + 10 * j) (getD rs (home j) blank)
   cntts-there s at y e j l =
-      let v = one-value (getD rs (home j) blank .second) (c .has j l) in
+      let v = one-value (secondIn (getD rs (home j) blank)) (c .has j l) in
       let b =
       blocks-written s (λ j. at + 10 * j) blank ownCntt y (rows (λ j. getD rs (home j) blank) 0 m) (λ j z u r. omega (arith, length-own j u))
       (moved s (at + 10 * 0) at (omega arith) ∙ e ∙ ap (λ z. z ++ y) numbers-bytes) .0 j (rw rows-length l) in

@@ -12,7 +12,7 @@ use Rattle.layout.specs.Bytes.{Cntt, chunk}
 use Rattle.layout.specs.declared.turn.Turn.the-variants.{More}
 use Rattle.layout.specs.declared.record.SecondTable.the-variants.{Value}
 use Rattle.layout.specs.Ranges.{cnttValue}
-use Rattle.layout.specs.Group.{cnttFault, cnttAt}
+use Rattle.layout.specs.Group.{headFault, cnttFault, cnttAt}
 use Rattle.layout.specs.Write.{cnttBytes}
 use Rattle.layout.proofs.Heads.{head-sound}
 use Rattle.layout.proofs.Cntts.{CnttMore, cntt-fits, channel-in}
@@ -57,10 +57,13 @@ module _ (c : List ℕ) (at channel v : ℕ) (x : List ℕ) (e : drop at c ≡ c
   pub written-value : getD c (at + 9) 0 ≡ v
   written-value = ap (λ k. getD c k 0) (omega arith) ∙ written-byte c at Cntt (channel ∷ v ∷ []) x refl chunked 1 (omega arith)
 
+  pub cntt-headed : headFault c at Cntt ≡ 0
+  cntt-headed = written-head c at Cntt (channel ∷ v ∷ []) x refl chunked (omega arith)
+
   pub cntt-written : (p n q j : ℕ) → channel < 16 → cnttValue v ≡ true → cnttFault c p n q j (getD c (at + 8) 0) ≡ 0 → CnttMore c p n q j at
   cntt-written p n q j l t o =
       record {
-        head = written-head c at Cntt (channel ∷ v ∷ []) x refl chunked (omega arith);
+        head = cntt-headed;
         size = written-length c at Cntt (channel ∷ v ∷ []) x refl chunked (omega arith);
         channel = rw written-channel l;
         value = rw written-value t;

@@ -36,9 +36,13 @@ pub length-file : (r : Record) → length (fileBytes r) ≡ size (editionOf r)
 unfolding fileBytes
 length-file r = closed-length (editionOf r) (bytesOf r) (bytes-length r)
 
+pub four-bytes : (e : Edition) → length (tagOf e) ≡ 4
+four-bytes First = refl
+four-bytes Second = refl
+
 pub length-ctab : (r : Record) → length (ctabBytes r) ≡ 8 + size (editionOf r)
 unfolding ctabBytes
-length-ctab r = length-chunk (tagOf (editionOf r)) (fileBytes r) refl ∙ rw (length-file r)
+length-ctab r = length-chunk (tagOf (editionOf r)) (fileBytes r) (four-bytes (editionOf r)) ∙ rw (length-file r)
 
 -- ---- read
 
@@ -70,10 +74,6 @@ module _ (e : Edition) (c : List ℕ) (p n at : ℕ) (h : CtabMore e c p n at) w
       ∙ ap (λ x. chunk (tagOf e) x ++ drop (at + 8 + size e) c) (closing-read e c (at + 8) fits read-ranged)
 
 -- ---- written
-
-four-bytes : (e : Edition) → length (tagOf e) ≡ 4
-four-bytes First = refl
-four-bytes Second = refl
 
 -- a Ctab is no Cntt, so the run goes on where it stands
 no-cntt : (e : Edition) → same (tagOf e) Cntt ≡ false

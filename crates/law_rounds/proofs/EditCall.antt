@@ -1,19 +1,19 @@
--- An edit at the call: what was granted is the body with the 27 bytes of one Ctab replaced, and it is read as the body before but for that record.
+-- An edit at the call: what was granted is the body with the bytes of one record replaced, and it is read as the body before but for that record.
 use Prim.Native.Nat.{ℕ, _+_, _≤_}
 use mathlib.Core.Path.{_≡_, sym, ap, _∙_}
 use mathlib.Core.List.{List, _++_}
 use native.Mathlib.Omega.{arith}
 use lib.ListN.{length, take, drop}
 use borrow.Author.Tests.{lt-leb}
-use Rattle.layout.specs.declared.edition.Edition.the-variants.{First}
+use Rattle.layout.specs.Editions.{size}
 use Rattle.layout.specs.Group.{ctabPlace}
 use Rattle.layout.specs.declared.record.Record.{Record}
 use Rattle.layout.specs.declared.answer.Answered.{Answered}
-use Rattle.layout.specs.Records.{fileBytes}
+use Rattle.layout.specs.Records.{editionOf, fileBytes}
 use Rattle.layout.specs.Answers.{granted, valueOr, afterRun, answered}
 use Rattle.layout.specs.Body.{groupNo}
 use Rattle.layout.specs.Asked.{standing, rowIn, rowOf, ofGroup, ofChannel, Whereabouts, channelFound}
-use Rattle.layout.specs.Write.{Whole}
+use Rattle.layout.specs.Write.{Whole, firstEdition}
 use Rattle.layout.specs.Edit.{replaced, edited}
 use Rattle.layout.specs.Promises.{RecordEdited}
 use Rattle.layout.proofs.Accepted.{body-accepted}
@@ -37,11 +37,11 @@ module _ (s : List ℕ) (g channel : ℕ) (new : Record) (b : Bytes s) (w : Whol
   unfolding channelFound ofGroup ofChannel afterRun
   found = rw (q .accepted, lt-leb (q .n) g (q .there), lt-leb (standing s g .records) (rowIn s (standing s g) channel) (q .its), afterRun)
 
-  within : row .at + 27 ≤ length s
+  within : row .at + size (editionOf new) ≤ length s
   within =
       let p = edit-placed s (q .n) g b (body-accepted s (q .n) (q .accepted)) (q .there) channel (q .its) in
-      let e = group-edited (groupNo s g) (p .allowed) (rowIn s (standing s g) channel) (p .its) new w (edit-ranged new (q .ranged)) (q .own ∙ sym (p .channelled)) in
-      let at : row .at ≡ ctabPlace First (standing s g .ctabs) (rowIn s (standing s g) channel) + 8 = ap (λ x. ctabPlace x (standing s g .ctabs) (rowIn s (standing s g) channel) + 8) (p .edition) in
+      let e = group-edited (groupNo s g) (p .allowed) (rowIn s (standing s g) channel) (p .its) new w (edit-ranged new (q .ranged)) (q .own ∙ sym (p .channelled)) (q .like ∙ p .edition ∙ p .allowed .editions (rowIn s (standing s g) channel) (p .its)) in
+      let at : row .at ≡ ctabPlace (firstEdition (groupNo s g .records)) (standing s g .ctabs) (rowIn s (standing s g) channel) + 8 = ap (λ x. ctabPlace x (standing s g .ctabs) (rowIn s (standing s g) channel) + 8) (p .edition) in
       omega (arith, at, p .ctabs, p .ends, e .room, length-file new)
 
   ctab-changed : CtabChanged s g channel new after

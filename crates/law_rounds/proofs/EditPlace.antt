@@ -6,12 +6,11 @@ use native.Mathlib.Omega.{arith}
 use lib.Dec.{eqb}
 use lib.ListN.{length, getD, take, drop}
 use borrow.Author.Tests.{eqb-true}
-use Rattle.layout.specs.declared.edition.Edition.the-variants.{First}
 use Rattle.layout.specs.Records.{blank, channelOf}
 use Rattle.layout.specs.Group.{ctabPlace, ctabChannel, ctabOf, Group}
 use Rattle.layout.specs.Body.{groupPlace, noGroup, groupNo}
 use Rattle.layout.specs.Asked.{standingAt, standing, rowIn}
-use Rattle.layout.specs.Write.{groupBytes, Allowed}
+use Rattle.layout.specs.Write.{groupBytes, firstEdition, Allowed}
 use Rattle.layout.proofs.Scans.{first-stands}
 use Rattle.layout.proofs.Accepted.{Accepted}
 use Rattle.law_rounds.specs.Rounds.{Bytes, groupsOf}
@@ -26,7 +25,7 @@ pub record EditPlaced (s : List ℕ) (n g channel : ℕ) : Type 0 where
   pub listed : getD (groupsOf s n) g noGroup ≡ groupNo s g
   pub place : groupPlace s g ≡ length (flatMap groupBytes (take g (groupsOf s n)))
   pub ends : groupPlace s g + length (groupBytes (groupNo s g)) ≤ length s
-  pub edition : standing s g .edition ≡ First
+  pub edition : standing s g .edition ≡ firstEdition (groupNo s g .records)
   pub ctabs : standing s g .ctabs ≡ groupPlace s g + 16 + length (groupNo s g .text)
   pub its : rowIn s (standing s g) channel < length (groupNo s g .records)
   pub channelled : channelOf (getD (groupNo s g .records) (rowIn s (standing s g) channel) blank) ≡ channel
@@ -44,7 +43,7 @@ module _ (s : List ℕ) (n g : ℕ) (b : Bytes s) (h : Accepted s n) (l : g < n)
   own-there : drop at s ≡ groupBytes own ++ drop (groupPlace s (suc g)) s
   own-there = bytes-of s n b h g l
 
-  edition-is : standing s g .edition ≡ First
+  edition-is : standing s g .edition ≡ firstEdition (own .records)
   unfolding standing standingAt
   edition-is = ap (λ j. standingAt s at j .edition) (there-sound s at own _ own-there own-allowed)
 

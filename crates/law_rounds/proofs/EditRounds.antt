@@ -1,5 +1,5 @@
 -- An edit read back: the bytes after it are those of the same groups with one record replaced; these are allowed, so they are read as they were written.
-use Prim.Native.Nat.{ℕ, _+_, _*_, _≤_, _<_}
+use Prim.Native.Nat.{ℕ, _+_, _≤_, _<_}
 use mathlib.Core.Path.{_≡_, sym, ap, ap₂, _∙_}
 use mathlib.Core.List.{List, flatMap}
 use native.Mathlib.Omega.{arith}
@@ -11,7 +11,7 @@ use Rattle.layout.specs.Answers.{granted}
 use Rattle.layout.specs.Group.{ctabPlace, Group}
 use Rattle.layout.specs.Body.{groupPlace, bodyRun, noGroup, groupNo}
 use Rattle.layout.specs.Asked.{standing, rowIn}
-use Rattle.layout.specs.Write.{groupBytes, Whole, Allowed}
+use Rattle.layout.specs.Write.{groupBytes, Whole, firstEdition, Allowed}
 use Rattle.layout.specs.Edit.{replaced, edited}
 use Rattle.layout.proofs.Accepted.{Accepted, body-accepted}
 use Rattle.law_rounds.specs.Rounds.{Bytes, groupsOf, BodyAllowed, withRecord, EditRead}
@@ -23,17 +23,22 @@ use Rattle.law_rounds.proofs.BodyRounds.{body-back, body-allowed, body-
 use Rattle.law_rounds.proofs.Sets.{set-each, set-same}
 use Rattle.law_rounds.proofs.EditPlace.{EditPlaced, edit-placed}
 use Rattle.law_rounds.proofs.EditGranted.{edit-granted}
-use Rattle.law_rounds.proofs.EditedGroup.{Edited, group-edited}
+use Rattle.law_rounds.proofs.EditedGroup.{byteOf, Edited, group-edited}
 
--- ---- allowed groups of which one is replaced by an allowed one of the same text and size
+-- ---- allowed groups of which one is replaced by an allowed one of the same text, size, and number of records of the same edition
 
-set-allowed : (gs : List Group) (k : ℕ) (g : Group) → BodyAllowed gs → Allowed g → g .text ≡ getD gs k noGroup .text → length (flatMap groupBytes (set gs k g)) ≤ 32768
+set-allowed : (gs : List Group) (k : ℕ) (g : Group) → BodyAllowed gs → Allowed g → g .text ≡ getD gs k noGroup .text
+    → length (g .records) ≡ length (getD gs k noGroup .records) → firstEdition (g .records) ≡ firstEdition (getD gs k noGroup .records) → length (flatMap groupBytes (set gs k g)) ≤ 32768
     → BodyAllowed (set gs k g)
-set-allowed gs k g a ok e small =
+set-allowed gs k g a ok e c d small =
     let same : (j : ℕ) → j < length gs → getD (set gs k g) j noGroup .text ≡ getD gs j noGroup .text = set-same (λ (x : Group). x .text) gs k g noGroup e in
+    let count : (j : ℕ) → j < length gs → length (getD (set gs k g) j noGroup .records) ≡ length (getD gs j noGroup .records) = set-same (λ (x : Group). length (x .records)) gs k g noGroup c in
+    let edition : (j : ℕ) → j < length gs → firstEdition (getD (set gs k g) j noGroup .records) ≡ firstEdition (getD gs j noGroup .records) = set-same (λ (x : Group). firstEdition (x .records)) gs k g noGroup d in
     record {
       each = set-each Allowed gs k g noGroup ok (a .each);
       few = rw (length-set gs k g) (a .few);
+      editions = λ i j u v x y. let w : i < length gs = rw (length-set gs k g) at u in let z : j < length gs = rw (length-set gs k g) at v in
+          edition i w ∙ a .editions i j w z (omega (arith, count i w)) (omega (arith, count j z)) ∙ sym (edition j z);
       apart = λ i j u v. let z : j < length gs = rw (length-set gs k g) at v in rw (same i (omega arith), same j z) (a .apart i j u z);
       short = small;
     }
@@ -41,7 +46,7 @@ set-allowed gs k g a ok e small =
 -- ---- the body after
 
 module _ (s : List ℕ) (n g channel : ℕ) (b : Bytes s) (h : Accepted s n) (l : g < n) (p : EditPlaced s n g channel)
-    (new : Record) (w : Whole new) (same : channelOf new ≡ channel) (r : Ranged (editionOf new) (bytesOf new)) where
+    (new : Record) (w : Whole new) (same : channelOf new ≡ channel) (like : editionOf new ≡ standing s g .edition) (r : Ranged (editionOf new) (bytesOf new)) where
   -- the number of the record
   abbrev row : ℕ
   row = rowIn s (standing s g) channel
@@ -52,10 +57,10 @@ module _ (s : List ℕ) (n g channel : ℕ) (b : Bytes s) (h : Accepted s n) (l 
 
   -- where the record's bytes begin, in the group
   abbrev inner : ℕ
-  inner = 8 + (8 + length (groupNo s g .text) + (35 * row + 8))
+  inner = 8 + (8 + length (groupNo s g .text) + byteOf (groupNo s g) row)
 
   group : Edited (groupNo s g) row new
-  group = group-edited (groupNo s g) (p .allowed) row (p .its) new w r (same ∙ sym (p .channelled))
+  group = group-edited (groupNo s g) (p .allowed) row (p .its) new w r (same ∙ sym (p .channelled)) (like ∙ p .edition ∙ p .allowed .editions row (p .its))
 
   inner-is : ctabPlace (standing s g .edition) (standing s g .ctabs) row + 8 ≡ groupPlace s g + inner
   inner-is = rw (p .edition) (omega (arith, p .ctabs))
@@ -68,7 +73,8 @@ module _ (s : List ℕ) (n g channel : ℕ) (b : Bytes s) (h : Accepted s n) (l 
   groups-allowed : BodyAllowed (set (groupsOf s n) g put)
   groups-allowed =
       let long = replaced-length s (groupPlace s g + inner) (fileBytes new) (omega (arith, group .room, p .ends)) in
-      set-allowed (groupsOf s n) g put (body-allowed s n b h) (group .allowed) (rw (p .listed)) (rw (← bytes-after, long) (h .short))
+      set-allowed (groupsOf s n) g put (body-allowed s n b h) (group .allowed) (rw (p .listed))
+      (rw (p .listed) (length-set (groupNo s g .records) row _)) (rw (p .listed) (group .edition)) (rw (← bytes-after, long) (h .short))
 
   count : length (set (groupsOf s n) g put) ≡ n
   count = length-set (groupsOf s n) g put ∙ rows-length (groupNo s) 0 n
@@ -87,7 +93,7 @@ edit-back s after g channel new b w e =
     let h = body-accepted s (q .n) (q .accepted) in
     let p = edit-placed s (q .n) g b h (q .there) channel (q .its) in
     let r = edit-ranged new (q .ranged) in
-    let is = q .is ∙ ap (λ x. replaced s x (fileBytes new)) (inner-is s (q .n) g channel b h (q .there) p new w (q .own) r) in
+    let is = q .is ∙ ap (λ x. replaced s x (fileBytes new)) (inner-is s (q .n) g channel b h (q .there) p new w (q .own) (q .like) r) in
     record {
       n = q .n;
       index = rowIn s (standing s g) channel;
@@ -95,6 +101,6 @@ edit-back s after g channel new b w e =
       there = q .there;
       its = p .its;
       channelled = p .channelled;
-      again = ap bodyRun is ∙ run-after s (q .n) g channel b h (q .there) p new w (q .own) r;
-      groups = ap (λ x. groupsOf x (q .n)) is ∙ groups-after s (q .n) g channel b h (q .there) p new w (q .own) r;
+      again = ap bodyRun is ∙ run-after s (q .n) g channel b h (q .there) p new w (q .own) (q .like) r;
+      groups = ap (λ x. groupsOf x (q .n)) is ∙ groups-after s (q .n) g channel b h (q .there) p new w (q .own) (q .like) r;
     }

@@ -8,30 +8,27 @@ use Rattle.layout.specs.declared.record.Record.{Record}
 use Rattle.layout.specs.declared.answer.Answered.{Answered}
 use Rattle.layout.specs.declared.answer.Changed.{Changed}
 use Rattle.layout.specs.Editions.{held}
-use Rattle.layout.specs.Ranges.{outOf, ruleAt}
-use Rattle.layout.specs.Records.{bytesOf, recordOf, editionOf}
+use Rattle.layout.specs.Records.{bytesOf, editionOf, secondIn, positionIn}
 use Rattle.layout.specs.Answers.{Answer, refused, granted, numberOf, valueOr, answered}
 use Rattle.layout.specs.Screen.{fieldSet, changed}
 use Rattle.layout.specs.Promises.{FieldSet, FieldSetInPlace}
 use Rattle.law_rounds.specs.Calls.{FieldChanged}
-use Rattle.law_rounds.proofs.Granted.{if-granted, granted-once}
-use Rattle.law_rounds.proofs.RecordBack.{read-whole, set-alone}
+use Rattle.law_rounds.proofs.Granted.{if-granted}
+use Rattle.law_rounds.proofs.RecordBack.{read-whole, set-is, set-alone}
 use Rattle.law_rounds.proofs.Numbered.{accepts-granted, field-numbered}
 
 field-changed : (r after : Record) (index value : ℕ) → fieldSet r index value ≡ granted after → FieldChanged r index value after
 unfolding fieldSet
 field-changed r after index value e =
-    let new : Record = recordOf (set (bytesOf r) index value) (r .second) (r .position) in
     let a = if-granted (leb (held (editionOf r)) index) 16 0 _ after e in
-    let b = if-granted (outOf (editionOf r) index (ruleAt (bytesOf r) 0 index) value) 9 index (granted new) after (a .1) in
-    let is : new ≡ after = granted-once new after (b .1) in
     let alone = set-alone r after index value e in
     record {
       within = leb-false (held (editionOf r)) index (a .0);
-      bytes = alone .0;
-      second = alone .1 .0;
-      position = alone .1 .1;
-      whole = rw (← is) (read-whole (set (bytesOf r) index value) (r .second) (r .position));
+      bytes = alone .bytes;
+      edition = alone .edition;
+      second = alone .second;
+      position = alone .position;
+      whole = rw (← (set-is r after index value e)) (read-whole (set (bytesOf r) index value) (secondIn r) (positionIn r) (editionOf r));
     }
 
 -- what is held after an answer: what was granted, or on refusal what was there

@@ -1,44 +1,55 @@
 -- The two round trips of a group: what is sound is given back byte for byte and is allowed; what is allowed and written is read, whatever stands behind it.
-use Prim.Native.Nat.{ℕ, _+_, _-_, _≤_}
-use mathlib.Core.Path.{_≡_, refl, sym, ap, ap₂, subst, _∙_}
+use Prim.Native.Nat.{ℕ, _+_, _*_, _-_, _≤_, _<_}
+use mathlib.Core.Path.{_≡_, refl, sym, ap, ap₂, _∙_}
 use mathlib.Core.List.{List, _++_, flatMap}
 use native.Mathlib.Omega.{arith}
+use native.Mathlib.Decide.{decLt}
 use lib.ListN.{length, take, drop}
 use lib.Seq.{drop-drop, take-at, drop-at}
 use Rattle.layout.specs.declared.edition.Edition.{Edition}
 use Rattle.layout.specs.Bytes.{word, CSEG, Sdec, chunk}
-use Rattle.layout.specs.declared.edition.Edition.the-variants.{First}
+use Rattle.layout.specs.declared.edition.Edition.the-variants.{First, Second}
 use Rattle.layout.specs.declared.turn.Judged.the-variants.{Sound}
-use Rattle.layout.specs.Group.{contents, payload, groupSize, groupAt, Group, groupOf}
-use Rattle.layout.specs.Write.{ctabBytes, cnttsIn, cnttsBytes, payloadBytes, groupBytes, Allowed}
+use Rattle.layout.specs.Group.{ctabPlace, contents, payload, groupSize, groupAt, Group, groupOf}
+use Rattle.layout.specs.Write.{ctabBytes, cnttsIn, cnttsBytes, payloadBytes, groupBytes, firstEdition, Allowed}
 use Rattle.layout.proofs.Texts.{text-most}
 use Rattle.layout.proofs.Heads.{head-sound}
-use Rattle.layout.proofs.Groups.{sdec-tag, cseg-tag, contents-sound, group-sound}
+use Rattle.layout.proofs.Groups.{sdec-tag, cseg-tag, contents-ended, group-sound}
 use Rattle.layout.proofs.GroupPlaces.{payload-length}
 use Rattle.layout.proofs.Positions.{positions-right, cntts-most}
-use Rattle.layout.proofs.GroupSound.{Contents, contents-sound-is, group-sound-is}
+use Rattle.layout.proofs.GroupSound.{Contents, contents-sound-is, empty-first, group-sound-is}
+use Rattle.layout.proofs.Lists.{rows-length}
 use Rattle.law_rounds.specs.Rounds.{Bytes, GroupRead}
 use Rattle.law_rounds.proofs.Chunks.{bytes-part, chunk-read, length-chunk, written-length, written-rest, written-fits, written-head}
-use Rattle.law_rounds.proofs.ContentsRead.{contents-back, contents-counted, contents-allowed}
-use Rattle.law_rounds.proofs.RecordsPlaced.{Placed, records-placed}
-use Rattle.law_rounds.proofs.RecordsWritten.{ctabs-run, cntts-run, records-back, at-most}
+use Rattle.law_rounds.proofs.ContentsRead.{contents-edition, contents-back, contents-counted, contents-allowed}
+use Rattle.law_rounds.proofs.RecordsPlaced.{OneEdition, Placed, records-placed, no-cntt-written}
+use Rattle.law_rounds.proofs.EditionThere.{no-record, edition-there}
+use Rattle.law_rounds.proofs.RecordsWritten.{ctabs-run, records-back, at-most}
+use Rattle.law_rounds.proofs.CnttsWritten.{behind-read}
 
 -- ---- read
 
 module _ (p : List ℕ) (ed : Edition) (t n m : ℕ) (e : groupAt p ≡ Sound ed t n m) where
-  -- the edition that is read
-  same : First ≡ ed
-  same = group-sound-is p ed t n m e .edition
-
-  inside : Contents (payload p) First t n m
-  inside = subst (λ (x : Edition). Contents (payload p) x t n m) (sym same) (contents-sound-is (payload p) ed t n m (group-sound-is p ed t n m e .inside))
+  inside : Contents (payload p) ed t n m
+  inside = contents-sound-is (payload p) ed t n m (group-sound-is p ed t n m e .inside)
 
   pub group-allowed : Allowed (groupOf ed (payload p) t n m)
-  group-allowed = subst (λ (x : Edition). Allowed (groupOf x (payload p) t n m)) same (contents-allowed (payload p) t n m inside)
+  group-allowed = contents-allowed (payload p) ed t n m inside
+
+  -- its records are of its edition, and where it has none it is of the first
+  pub group-edition : firstEdition (groupOf ed (payload p) t n m .records) ≡ ed
+  unfolding groupOf firstEdition
+  group-edition = go (decLt 0 n)
+    where
+      go : Dec (0 < n) → firstEdition (groupOf ed (payload p) t n m .records) ≡ ed
+      go (yes d) = contents-edition (payload p) ed t n m 0 d
+      go (no d) =
+          let z : n ≡ 0 = omega arith in
+          no-record (groupOf ed (payload p) t n m .records) (rows-length _ 0 n ∙ z) .0 ∙ sym (empty-first (payload p) ed t m (rw z at inside))
 
   -- its records have as many Cntts as it has
   pub group-counted : cnttsIn (groupOf ed (payload p) t n m .records) ≡ m
-  group-counted = subst (λ (x : Edition). cnttsIn (groupOf x (payload p) t n m .records) ≡ m) same (contents-counted (payload p) t n m inside)
+  group-counted = contents-counted (payload p) ed t n m inside
 
   pub group-back : Bytes p → groupBytes (groupOf ed (payload p) t n m) ≡ take (groupSize p) p
   unfolding groupBytes payload groupSize
@@ -46,8 +57,7 @@ module _ (p : List ℕ) (ed : Edition) (t n m : ℕ) (e : groupAt p ≡ Sound ed
       let g = group-sound-is p ed t n m e in
       let h = head-sound p 0 CSEG (g .head) in
       let long = payload-length p (omega (arith, h .1)) in
-      ap (λ (x : Edition). chunk CSEG (payloadBytes (groupOf x (payload p) t n m))) (sym same)
-      ∙ ap (chunk CSEG) (contents-back (payload p) t n m inside (bytes-part p (word p 4) 8 b))
+      ap (chunk CSEG) (contents-back (payload p) ed t n m inside (bytes-part p (word p 4) 8 b))
       ∙ sym (ap (take (8 + word p 4)) (chunk-read p 0 CSEG (word p 4) b (h .0) refl (h .1))
       ∙ take-at (chunk CSEG (payload p)) _ (8 + word p 4) (length-chunk CSEG (payload p) refl ∙ ap (λ x. 8 + x) long))
 
@@ -57,10 +67,22 @@ module _ (p : List ℕ) (ed : Edition) (t n m : ℕ) (e : groupAt p ≡ Sound ed
 unfoldable pub rest : Group → List ℕ
 rest g = flatMap ctabBytes (g .records) ++ cnttsBytes (g .records)
 
+-- 16 records and as many Cntts at the most, and of the second edition no Cntt
+most : (e : Edition) (t n m : ℕ) → t ≤ 255 → n ≤ 16 → m ≤ n → (e ≡ Second → m ≡ 0) → ctabPlace e (8 + t) n + 10 * m ≤ 1143
+most First t n m a b d none = omega arith
+most Second t n m a b d none = omega (arith, none refl)
+
 module _ (g : Group) (a : Allowed g) where
   pub spread : payloadBytes g ≡ chunk Sdec (g .text) ++ rest g
   unfolding payloadBytes rest
   spread = refl
+
+  -- the edition of its records
+  abbrev pub own : Edition
+  own = firstEdition (g .records)
+
+  pub one : OneEdition own (g .records)
+  one = record { first = refl; each = λ i l. sym (a .editions i l) }
 
   pub short : length (g .text) ≤ 255
   short = text-most (g .text) (a .text)
@@ -79,33 +101,31 @@ module _ (g : Group) (a : Allowed g) where
   sdec-fits : 8 + length (g .text) ≤ length (payloadBytes g)
   sdec-fits = omega (arith, written-fits (payloadBytes g) 0 Sdec (g .text) (rest g) refl spread)
 
-  pub placed : Placed (g .records) (payloadBytes g) (8 + length (g .text))
-  placed = records-placed (g .records) (positions-right (g .records) (a .positions)) (payloadBytes g) (8 + length (g .text)) ctabs-there sdec-fits
+  pub placed : Placed own (g .records) (payloadBytes g) (8 + length (g .text))
+  placed = records-placed own (g .records) one (positions-right (g .records) (a .positions)) (payloadBytes g) (8 + length (g .text)) ctabs-there sdec-fits
 
-  -- 16 records and as many Cntts at the most
-  pub payload-short : (8 ≤ length (payloadBytes g)) × (length (payloadBytes g) ≤ 983)
+  pub payload-short : (8 ≤ length (payloadBytes g)) × (length (payloadBytes g) ≤ 1143)
   payload-short =
       let w = placed .cover in
       let n = at-most (g .records) (a .ranges) (a .apart) in
       let m = cntts-most (g .records) in
-      let t = short in
-      (omega arith, omega arith)
+      (omega arith, omega (arith, most own (length (g .text)) (length (g .records)) (cnttsIn (g .records)) short n m (no-cntt-written own (g .records) (payloadBytes g) (8 + length (g .text)) placed)))
 
-  pub contents-written : contents (payloadBytes g) ≡ Sound First (length (g .text)) (length (g .records)) (cnttsIn (g .records))
+  pub contents-written : contents (payloadBytes g) ≡ Sound own (length (g .text)) (length (g .records)) (cnttsIn (g .records))
   contents-written =
       let l : ℕ = length (g .text) in
       let c : List ℕ = payloadBytes g in
       let z : 8 + length (g .text) - 8 ≡ length (g .text) = omega arith in
-      contents-sound c 0 (sym (rw sdec-tag (written-head c 0 Sdec (g .text) (rest g) refl spread (omega (arith, short))))) refl l
+      contents-ended c 0 (sym (rw sdec-tag (written-head c 0 Sdec (g .text) (rest g) refl spread (omega (arith, short))))) refl l
       (sym (written-length c 0 Sdec (g .text) (rest g) refl spread (omega (arith, short))))
-      (rw (z, text-back) (a .text))
-      (length (g .records)) (ctabs-run (g .records) (a .whole) (a .ranges) (a .apart) c (8 + l) placed)
-      (cnttsIn (g .records)) (cntts-run (g .records) (a .whole) (a .ranges) (a .apart) c (8 + l) placed)
+      (rw (z, text-back) (a .text)) own (sym (edition-there own (g .records) c (8 + l) placed))
+      (length (g .records)) (ctabs-run own (g .records) (a .whole) (a .ranges) (a .apart) c (8 + l) placed)
+      ∙ behind-read (g .records) (a .ranges) (a .apart) c own l placed
 
-  pub value-back : groupOf First (payloadBytes g) (length (g .text)) (length (g .records)) (cnttsIn (g .records)) ≡ g
+  pub value-back : groupOf own (payloadBytes g) (length (g .text)) (length (g .records)) (cnttsIn (g .records)) ≡ g
   unfolding groupOf
   value-back =
-      λ i. record { text = text-back i; records = records-back (g .records) (a .whole) (a .ranges) (a .apart) (payloadBytes g) (8 + length (g .text)) placed i }
+      λ i. record { text = text-back i; records = records-back own (g .records) (a .whole) (a .ranges) (a .apart) (payloadBytes g) (8 + length (g .text)) placed i }
 
   module _ (x : List ℕ) where
     chunked : groupBytes g ++ x ≡ chunk CSEG (payloadBytes g) ++ x

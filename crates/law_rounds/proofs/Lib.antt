@@ -8,13 +8,18 @@ pub mod InRange
 pub mod CtabRounds
 pub mod CnttHomes
 pub mod CnttRounds
+pub mod CnttsBehind
 pub mod ContentsRead
 pub mod RecordsPlaced
+pub mod EditionThere
 pub mod RecordsWritten
+pub mod CnttsWritten
 pub mod GroupRounds
 pub mod GroupThere
+pub mod BodyEditions
 pub mod BodyRounds
 pub mod Sets
+pub mod KeptForms
 pub mod EditedGroup
 pub mod EditGranted
 pub mod EditPlace
@@ -31,3 +36,4 @@ pub mod FieldCall
 pub mod AnyPosition
 pub mod Renumbered
 pub mod Rearranged
+pub mod OneEdition

@@ -14,17 +14,17 @@ use Rattle.layout.specs.declared.turn.Run.{Run}
 use Rattle.layout.specs.declared.turn.Run.the-variants.{Stopped, Ended}
 use Rattle.layout.specs.declared.turn.Judged.{Judged}
 use Rattle.layout.specs.declared.turn.Judged.the-variants.{Unsound, Sound}
-use Rattle.layout.specs.Editions.{held}
+use Rattle.layout.specs.Editions.{size, held, alike}
 use Rattle.layout.specs.Ranges.{outOf, ruleAt}
 use Rattle.layout.specs.declared.record.Record.{Record}
-use Rattle.layout.specs.Records.{bytesOf, recordOf, blank, channelOf, editionOf, firstBad, fileBytes}
+use Rattle.layout.specs.Records.{bytesOf, recordOf, blank, channelOf, editionOf, secondIn, positionIn, firstBad, fileBytes}
 use Rattle.layout.specs.Sdec.{soundText}
 use Rattle.layout.specs.declared.answer.Standing.{Standing}
 use Rattle.layout.specs.Answers.{Answer, refused, granted, numberOf, afterRun}
 use Rattle.layout.specs.Group.{headFault, ctabPlace, groupAt}
-use Rattle.layout.specs.Body.{groupPlace, sharing, afterContents, groupTurnAt, groupTurn, bodyRun, groupNo}
+use Rattle.layout.specs.Body.{groupPlace, sharing, unlikeBody, afterContents, groupTurnAt, groupTurn, bodyRun, groupNo}
 use Rattle.layout.specs.Asked.{standing, ofGroup, rowIn, ofChannel, recordsRead}
-use Rattle.layout.specs.Write.{groupBytes, wrongPositions, recordOn, recordTurn, recordsRun, groupFrom, written}
+use Rattle.layout.specs.Write.{groupBytes, wrongPositions, firstEdition, recordOn, recordTurn, recordsRun, groupFrom, written}
 use Rattle.layout.specs.Edit.{replaced, firstEdited, edited}
 use Rattle.layout.specs.Screen.{fieldSet}
 use Rattle.layout.proofs.Runs.{run-stopped}
@@ -61,11 +61,12 @@ module _ (s : List ℕ) (n at k place : ℕ) where
   after-numbered : (r : Judged) → groupAt (drop at s) ≡ r → afterContents s n at r ≡ Refused k place → 0 < k
   unfolding afterContents
   after-numbered (Unsound a b) e q = let z : a ≡ k = cc in rw z at (refusal-some (drop at s) a b e)
-  after-numbered (Sound ed t c m) e q = go (ltb (sharing s n at) n) q
+  after-numbered (Sound ed t c m) e q = go (unlikeBody s n ed c) (ltb (sharing s n at) n) q
     where
-      go : (b : Bool) → cond b (Refused 13 at) More ≡ Refused k place → 0 < k
-      go true w = let z : 13 ≡ k = cc in omega arith
-      go false w = absurd (let z : _≡_ {A = ℕ} 0 1 = cc in omega arith)
+      go : (a b : Bool) → cond a (Refused 21 at) (cond b (Refused 13 at) More) ≡ Refused k place → 0 < k
+      go true b w = let z : 21 ≡ k = cc in omega arith
+      go false true w = let z : 13 ≡ k = cc in omega arith
+      go false false w = absurd (let z : _≡_ {A = ℕ} 0 1 = cc in omega arith)
 
   turn-numbered : groupTurnAt s n at ≡ Refused k place → 0 < k
   unfolding groupTurnAt
@@ -100,24 +101,29 @@ edited-numbered s g channel new =
     let row : ℕ = rowIn s x channel in
     run-numbered (bodyRun s) _ (body-numbered s)
     (λ n. if-numbered (leb n g) 16 0 _ (omega arith) (if-numbered (leb (x .records) row) 15 0 _ (omega arith) (if-numbered (not (eqb (channelOf new) channel)) 16 0 _ (omega arith)
-    (if-numbered (ltb (firstEdited new) (held (editionOf new))) 9 (firstEdited new) _ (omega arith) (granted-numbered (replaced s (ctabPlace (x .edition) (x .ctabs) row + 8) (fileBytes new)))))))
+    (if-numbered (not (alike (x .edition) (editionOf new))) 21 0 _ (omega arith) (if-numbered (ltb (firstEdited new) (held (editionOf new))) 9 (firstEdited new) _ (omega arith) (granted-numbered (replaced s (ctabPlace (x .edition) (x .ctabs) row + 8) (fileBytes new))))))))
 
 pub field-numbered : (r : Record) (index value : ℕ) → Numbered (fieldSet r index value)
 unfolding fieldSet
 field-numbered r index value =
     if-numbered (leb (held (editionOf r)) index) 16 0 _ (omega arith) (if-numbered (outOf (editionOf r) index (ruleAt (bytesOf r) 0 index) value) 9 index _ (omega arith)
-    (granted-numbered (recordOf (set (bytesOf r) index value) (r .second) (r .position))))
+    (granted-numbered (recordOf (editionOf r) (set (bytesOf r) index value) (secondIn r) (positionIn r))))
 
 -- ---- writing
 
 record-numbered : (rs : List Record) (i k place : ℕ) → recordTurn rs i ≡ Refused k place → 0 < k
 unfolding recordTurn
-record-numbered rs i k place e = go (ltb (firstBad (getD rs i blank)) 26) (ltb (recordOn rs i (channelOf (getD rs i blank))) i) e
+record-numbered rs i k place e =
+    go (not (alike (firstEdition rs) (editionOf (getD rs i blank)))) (ltb (firstBad (getD rs i blank)) (held (firstEdition rs))) (ltb (recordOn rs i (channelOf (getD rs i blank))) i) e
   where
-    go : (a b : Bool) → cond a (Refused 9 (27 * i + firstBad (getD rs i blank))) (cond b (Refused 10 (27 * i)) More) ≡ Refused k place → 0 < k
-    go true b q = let z : 9 ≡ k = cc in omega arith
-    go false true q = let z : 10 ≡ k = cc in omega arith
-    go false false q = absurd (let z : _≡_ {A = ℕ} 0 1 = cc in omega arith)
+    at : ℕ
+    at = size (firstEdition rs) * i
+
+    go : (a b c : Bool) → cond a (Refused 21 at) (cond b (Refused 9 (at + firstBad (getD rs i blank))) (cond c (Refused 10 at) More)) ≡ Refused k place → 0 < k
+    go true b c q = let z : 21 ≡ k = cc in omega arith
+    go false true c q = let z : 9 ≡ k = cc in omega arith
+    go false false true q = let z : 10 ≡ k = cc in omega arith
+    go false false false q = absurd (let z : _≡_ {A = ℕ} 0 1 = cc in omega arith)
 
 records-run-numbered : (rs : List Record) (k place : ℕ) → recordsRun rs ≡ Stopped k place → 0 < k
 unfolding recordsRun

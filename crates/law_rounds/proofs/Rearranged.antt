@@ -1,17 +1,16 @@
 -- Document 02, §1: a sound group with its Cntts in another order is the bytes of the same group renumbered. That is allowed, so it is read as it was written.
 use Prim.Native.Nat.{ℕ, _+_, _*_, _<_}
-use mathlib.Core.Path.{_≡_, refl, sym, ap, ap₂, subst, _∙_}
+use mathlib.Core.Path.{_≡_, refl, sym, ap, ap₂, _∙_}
 use mathlib.Core.List.{List, [], _++_, append-assoc, append-nil, flatMap}
 use native.Mathlib.Omega.{arith}
 use lib.ListN.{length, getD, take, drop, length-append, length-drop, take-append-drop}
 use lib.Seq.{take-at, drop-at, length-take-le}
 use Rattle.layout.specs.Bytes.{CSEG, Sdec, four, chunk}
 use Rattle.layout.specs.declared.edition.Edition.{Edition}
-use Rattle.layout.specs.declared.edition.Edition.the-variants.{First}
 use Rattle.layout.specs.declared.turn.Judged.the-variants.{Sound}
 use Rattle.layout.specs.Records.{blank}
-use Rattle.layout.specs.Group.{payload, groupSize, groupAt, Group, groupOf}
-use Rattle.layout.specs.Write.{ctabBytes, cnttCount, cnttsIn, cnttsBytes, payloadBytes, groupBytes, Allowed}
+use Rattle.layout.specs.Group.{ctabPlace, payload, groupSize, groupAt, Group, groupOf}
+use Rattle.layout.specs.Write.{ctabBytes, cnttCount, cnttsIn, cnttsBytes, payloadBytes, groupBytes, firstEdition, Allowed}
 use Rattle.layout.proofs.Lists.{rows-length}
 use Rattle.layout.proofs.Positions.{positions-right}
 use Rattle.layout.proofs.GroupSound.{contents-sound-is, group-sound-is}
@@ -20,8 +19,8 @@ use Rattle.law_rounds.specs.Rearranged.{Rearrangement, rearranged, Rearr
 use Rattle.law_rounds.proofs.Blocks.{moved, flat-alike}
 use Rattle.law_rounds.proofs.Chunks.{length-chunk}
 use Rattle.law_rounds.proofs.CnttNumbers.{ownCntt, CnttNumbers, homeOf, positions-number, counted, length-cntts, cntts-there, there-ten}
-use Rattle.law_rounds.proofs.GroupRounds.{group-allowed, group-counted, group-back, placed, group-read}
-use Rattle.law_rounds.proofs.Renumbered.{renumbered, renumbered-numbers, renumbered-allowed, renumbered-same, renumbered-moved, renumbered-ctabs, renumbered-cntts}
+use Rattle.law_rounds.proofs.GroupRounds.{group-allowed, group-edition, group-counted, group-back, placed, group-read}
+use Rattle.law_rounds.proofs.Renumbered.{renumbered, renumbered-numbers, renumbered-edition, renumbered-allowed, renumbered-same, renumbered-moved, renumbered-ctabs, renumbered-cntts}
 
 -- ---- a group's bytes: what stands before its Cntts, where its payload has l bytes, and these
 
@@ -34,34 +33,34 @@ front-split g = simp append-assoc
 
 -- ---- the Cntts of a sound group rearranged
 
-module _ (p : List ℕ) (t n m : ℕ) (order : ℕ → ℕ) (b : Bytes p) (e : groupAt p ≡ Sound First t n m) (o : Rearrangement m order) where
+module _ (p : List ℕ) (ed : Edition) (t n m : ℕ) (order : ℕ → ℕ) (b : Bytes p) (e : groupAt p ≡ Sound ed t n m) (o : Rearrangement m order) where
   -- the group that is read
   abbrev g : Group
-  g = groupOf First (payload p) t n m
+  g = groupOf ed (payload p) t n m
 
   -- the record that has Cntt number j
   abbrev home : ℕ → ℕ
-  home j = homeOf (groupOf First (payload p) t n m .records) j
+  home j = homeOf (groupOf ed (payload p) t n m .records) j
 
   -- the group renumbered
   abbrev new : Group
-  new = renumbered (groupOf First (payload p) t n m) m (λ j. homeOf (groupOf First (payload p) t n m .records) (order j))
+  new = renumbered (groupOf ed (payload p) t n m) m (λ j. homeOf (groupOf ed (payload p) t n m .records) (order j))
 
   -- where the Cntts begin
   abbrev q : ℕ
-  q = 8 + t + 35 * n
+  q = ctabPlace ed (8 + t) n
 
   -- what stands before them
   abbrev before : List ℕ
   before = front (length (payloadBytes g)) (g .text) (flatMap ctabBytes (g .records))
 
   allowed : Allowed g
-  allowed = group-allowed p First t n m e
+  allowed = group-allowed p ed t n m e
 
   text-size : length (g .text) ≡ t
   unfolding groupOf
   text-size =
-      let c = contents-sound-is (payload p) First t n m (group-sound-is p First t n m e .inside) in
+      let c = contents-sound-is (payload p) ed t n m (group-sound-is p ed t n m e .inside) in
       length-take-le t (drop 8 (payload p)) (rw length-drop (omega (arith, c .cover)))
 
   records-size : length (g .records) ≡ n
@@ -69,7 +68,10 @@ module _ (p : List ℕ) (t n m : ℕ) (order : ℕ → ℕ) (b : Bytes p) (e : g
   records-size = rows-length _ 0 n
 
   numbers : CnttNumbers (g .records) m home
-  numbers = rw (group-counted p First t n m e) at (positions-number (g .records) (positions-right (g .records) (allowed .positions)))
+  numbers = rw (group-counted p ed t n m e) at (positions-number (g .records) (positions-right (g .records) (allowed .positions)))
+
+  new-size : length (new .records) ≡ n
+  new-size = sym (renumbered-same g m home order numbers o .count) ∙ records-size
 
   new-numbers : CnttNumbers (new .records) m (λ j. home (order j))
   new-numbers = renumbered-numbers g m home order numbers o
@@ -77,18 +79,26 @@ module _ (p : List ℕ) (t n m : ℕ) (order : ℕ → ℕ) (b : Bytes p) (e : g
   new-allowed : Allowed new
   new-allowed = renumbered-allowed g m home order numbers o allowed
 
+  -- how many bytes the payload of the one and of the other has
+  size-before : length (payloadBytes g) ≡ q + 10 * m
+  size-before = placed g allowed .cover ∙ rw (group-edition p ed t n m e, text-size, records-size, group-counted p ed t n m e)
+
+  size-after : length (payloadBytes new) ≡ q + 10 * m
+  size-after =
+      placed new new-allowed .cover ∙ rw (renumbered-edition g m home order numbers o, group-edition p ed t n m e, text-size, new-size, counted (new .records) m (λ j. home (order j)) new-numbers)
+
   -- ---- the bytes
 
   whole : p ≡ before ++ (cnttsBytes (g .records) ++ drop (groupSize p) p)
   whole =
-      sym (take-append-drop (groupSize p) p) ∙ ap (λ x. x ++ drop (groupSize p) p) (sym (group-back p First t n m e b) ∙ front-split g)
+      sym (take-append-drop (groupSize p) p) ∙ ap (λ x. x ++ drop (groupSize p) p) (sym (group-back p ed t n m e b) ∙ front-split g)
       ∙ append-assoc before (cnttsBytes (g .records)) (drop (groupSize p) p)
 
   before-size : length before ≡ 8 + q
   unfolding groupBytes
   before-size =
       let x = sym (length-chunk CSEG (payloadBytes g) refl) ∙ ap length (front-split g) ∙ length-append before (cnttsBytes (g .records)) in
-      omega (arith, placed g allowed .cover, length-cntts (g .records) m home numbers, group-counted p First t n m e, text-size, records-size)
+      omega (arith, size-before, length-cntts (g .records) m home numbers)
 
   cntt-there : (j : ℕ) → j < m → take 10 (drop (8 + (q + 10 * order j)) p) ≡ ownCntt (getD (g .records) (home (order j)) blank)
   cntt-there j l =
@@ -97,15 +107,7 @@ module _ (p : List ℕ) (t n m : ℕ) (order : ℕ → ℕ) (b : Bytes p) (e : g
       (cntts-there (g .records) m home numbers p (8 + q) _ (ap (drop (8 + q)) whole ∙ drop-at before _ (8 + q) before-size) (order j) (o .within j l))
 
   same-size : length (payloadBytes new) ≡ length (payloadBytes g)
-  same-size =
-      omega (
-        arith,
-        placed g allowed .cover,
-        placed new new-allowed .cover,
-        renumbered-same g m home order numbers o .count,
-        group-counted p First t n m e,
-        counted (new .records) m (λ j. home (order j)) new-numbers,
-      )
+  same-size = size-after ∙ sym size-before
 
   bytes : rearranged p q m order ≡ groupBytes new
   unfolding rearranged
@@ -118,18 +120,18 @@ module _ (p : List ℕ) (t n m : ℕ) (order : ℕ → ℕ) (b : Bytes p) (e : g
 
   -- ---- and what is read
 
-  back : (groupAt (groupBytes new) ≡ Sound First t n m) × (groupOf First (payload (groupBytes new)) t n m ≡ new)
+  back : (groupAt (groupBytes new) ≡ Sound ed t n m) × (groupOf ed (payload (groupBytes new)) t n m ≡ new)
   back =
       let r = group-read new new-allowed [] in
       let k : r .cntts ≡ m =
-      sym (group-counted (groupBytes new ++ []) First _ _ _ (r .sound)) ∙ ap (λ (x : Group). cnttsIn (x .records)) (r .back) ∙ counted (new .records) m (λ j. home (order j)) new-numbers in
-      let l : length (new .records) ≡ n = sym (renumbered-same g m home order numbers o .count) ∙ records-size in
-      (rw (append-nil (groupBytes new), text-size, l, k) at (r .sound), rw (append-nil (groupBytes new), text-size, l, k) at (r .back))
+      sym (group-counted (groupBytes new ++ []) _ _ _ _ (r .sound)) ∙ ap (λ (x : Group). cnttsIn (x .records)) (r .back) ∙ counted (new .records) m (λ j. home (order j)) new-numbers in
+      let d : firstEdition (new .records) ≡ ed = renumbered-edition g m home order numbers o ∙ group-edition p ed t n m e in
+      (rw (append-nil (groupBytes new), d, text-size, new-size, k) at (r .sound), rw (append-nil (groupBytes new), d, text-size, new-size, k) at (r .back))
 
-  first-rearranged : RearrangedRead p First t n m order
+  rearranged-read : RearrangedRead p ed t n m order
   unfolding cnttCount
-  first-rearranged =
-      let value : groupOf First (payload (rearranged p q m order)) t n m ≡ new = ap (λ x. groupOf First (payload x) t n m) bytes ∙ back .1 in
+  rearranged-read =
+      let value : groupOf ed (payload (rearranged p q m order)) t n m ≡ new = ap (λ x. groupOf ed (payload x) t n m) bytes ∙ back .1 in
       record {
         sound = ap groupAt bytes ∙ back .0;
         same = rw value (renumbered-same g m home order numbers o);
@@ -138,6 +140,4 @@ module _ (p : List ℕ) (t n m : ℕ) (order : ℕ → ℕ) (b : Bytes p) (e : g
 
 -- "accept them in any order"
 pub cntts-rearranged : (p : List ℕ) (e : Edition) (text n m : ℕ) (order : ℕ → ℕ) → Bytes p → groupAt p ≡ Sound e text n m → Rearrangement m order → RearrangedRead p e text n m order
-cntts-rearranged p e text n m order b s o =
-    let same : First ≡ e = group-sound-is p e text n m s .edition in
-    subst (λ (x : Edition). RearrangedRead p x text n m order) same (first-rearranged p text n m order b (s ∙ ap (λ (x : Edition). Sound x text n m) (sym same)) o)
+cntts-rearranged = rearranged-read

@@ -9,7 +9,8 @@ use Rattle.layout.specs.declared.record.Record.{Record}
 use Rattle.layout.specs.declared.record.SecondTable.{SecondTable}
 use Rattle.layout.specs.declared.turn.Run.the-variants.{Ended}
 use Rattle.layout.specs.declared.turn.Judged.the-variants.{Sound}
-use Rattle.layout.specs.Records.{bytesOf, recordOf}
+use Rattle.layout.specs.Records.{bytesOf, recordOf, editionOf, secondIn, positionIn}
+use Rattle.layout.specs.Editions.{held}
 use Rattle.layout.specs.Answers.{granted}
 use Rattle.layout.specs.Group.{payload, groupSize, groupAt, Group, groupOf}
 use Rattle.layout.specs.Body.{bodyRun, groupNo}
@@ -25,12 +26,12 @@ use Rattle.law_rounds.proofs.GroupRounds.{group-allowed, group-back, gr
 use Rattle.law_rounds.proofs.BodyRounds.{body-back, body-allowed, body-run, groups-back}
 use Rattle.law_rounds.proofs.EditRounds.{edit-back}
 
--- a record's bytes 0-25 are those that it was read from
-pub bytes-back : (b : List ℕ) (second : SecondTable) (position : ℕ) → 26 ≤ length b → bytesOf (recordOf b second position) ≡ take 26 b
+-- a record's bytes are those that it was read from
+pub bytes-back : (e : Edition) (b : List ℕ) (second : SecondTable) (position : ℕ) → held e ≤ length b → bytesOf (recordOf e b second position) ≡ take (held e) b
 bytes-back = read-bytes
 
 -- a record that has all its bytes is read back from them
-pub record-back : (r : Record) → Whole r → recordOf (bytesOf r) (r .second) (r .position) ≡ r
+pub record-back : (r : Record) → Whole r → recordOf (editionOf r) (bytesOf r) (secondIn r) (positionIn r) ≡ r
 record-back = bytes-read
 
 -- a sound group is given back byte for byte by writing it, and it may be written
@@ -70,9 +71,9 @@ edit-read = edit-back
 
 -- a field byte that is set on the screen changes that byte of the record, and nothing else of it
 pub field-alone : (r after : Record) (index value : ℕ) → fieldSet r index value ≡ granted after
-    → (bytesOf after ≡ set (bytesOf r) index value) × ((after .second ≡ r .second) × (after .position ≡ r .position))
-field-alone = set-alone
+    → (bytesOf after ≡ set (bytesOf r) index value) × ((secondIn after ≡ secondIn r) × (positionIn after ≡ positionIn r))
+field-alone r after index value e = let x = set-alone r after index value e in (x .bytes, (x .second, x .position))
 
 -- .. so its position is kept
-pub field-keeps-position : (r after : Record) (index value : ℕ) → fieldSet r index value ≡ granted after → after .position ≡ r .position
-field-keeps-position r after index value e = set-alone r after index value e .1 .1
+pub field-keeps-position : (r after : Record) (index value : ℕ) → fieldSet r index value ≡ granted after → positionIn after ≡ positionIn r
+field-keeps-position r after index value e = set-alone r after index value e .position

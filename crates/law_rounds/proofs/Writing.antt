@@ -1,4 +1,4 @@
--- What may be written is what is written: the run over the records goes on exactly where each is in range and of a source channel of its own, and then no position is wrong.
+-- What may be written is what is written: the run over the records goes on exactly where each is of the first's edition, in range and of a source channel of its own, and then no position is wrong.
 use Prim.Native.Nat.{ℕ, zero, suc, _+_, _*_, _-_, _≤_, _<_}
 use mathlib.Core.Path.{_≡_, refl, sym, ap, _∙_}
 use mathlib.Core.Bool.{Bool, true, false, cond, not}
@@ -15,11 +15,14 @@ use Rattle.layout.specs.declared.turn.Turn.{Turn}
 use Rattle.layout.specs.declared.turn.Turn.the-variants.{Refused, More, Done}
 use Rattle.layout.specs.declared.turn.Run.{Run}
 use Rattle.layout.specs.declared.turn.Run.the-variants.{Stopped, Ended}
+use Rattle.layout.specs.declared.edition.Edition.{Edition}
+use Rattle.layout.specs.Editions.{size, held, alike}
 use Rattle.layout.specs.declared.record.Record.{Record}
-use Rattle.layout.specs.Records.{blank, channelOf, badByte, firstBad}
+use Rattle.layout.specs.Records.{blank, channelOf, editionOf, badByte, firstBad}
 use Rattle.layout.specs.Sdec.{soundText}
 use Rattle.layout.specs.Answers.{refused, granted, afterRun}
-use Rattle.layout.specs.Write.{groupBytes, wrongPosition, wrongPositions, recordOn, recordTurn, recordsRun, groupFrom, written}
+use Rattle.layout.specs.Write.{groupBytes, wrongPosition, wrongPositions, firstEdition, recordOn, recordTurn, recordsRun, groupFrom, written}
+use Rattle.layout.proofs.Editions.{alike-self, alike-is}
 use Rattle.layout.proofs.Scans.{first-passed, first-within, first-none}
 use Rattle.law_rounds.specs.Calls.{WholeTable, MayBeWritten}
 use Rattle.law_rounds.proofs.Granted.{if-granted, granted-once}
@@ -28,29 +31,53 @@ use Rattle.law_rounds.proofs.Runs.{run-ran}
 -- ---- one record
 
 module _ (rs : List Record) (i : ℕ) where
-  -- it is in range, and no record before it has its source channel
-  abbrev Good : Type 0
-  Good = (firstBad (getD rs i blank) ≡ 26) × ((j : ℕ) → j < i → channelOf (getD rs j blank) ≡ channelOf (getD rs i blank) → ⊥)
+  -- its edition, and that of the group
+  abbrev its : Edition
+  its = editionOf (getD rs i blank)
 
-  abbrev verdict : Bool → Bool → Turn
-  verdict a b = cond a (Refused 9 (27 * i + firstBad (getD rs i blank))) (cond b (Refused 10 (27 * i)) More)
+  abbrev ed : Edition
+  ed = firstEdition rs
+
+  -- no record before it has its source channel
+  abbrev Own : Type 0
+  Own = (j : ℕ) → j < i → channelOf (getD rs j blank) ≡ channelOf (getD rs i blank) → ⊥
+
+  -- it is of the group's edition, in range, and of a source channel of its own
+  pub record Good : Type 0 where
+    pub edition : firstEdition rs ≡ editionOf (getD rs i blank)
+    pub range : firstBad (getD rs i blank) ≡ held (editionOf (getD rs i blank))
+    pub own : (j : ℕ) → j < i → channelOf (getD rs j blank) ≡ channelOf (getD rs i blank) → ⊥
+
+  abbrev verdict : Bool → Bool → Bool → Turn
+  verdict a b d = cond a (Refused 21 (size ed * i)) (cond b (Refused 9 (size ed * i + firstBad (getD rs i blank))) (cond d (Refused 10 (size ed * i)) More))
+
+  -- the three tests of its turn
+  abbrev unlike : Bool
+  unlike = not (alike (firstEdition rs) (editionOf (getD rs i blank)))
+
+  abbrev out : Bool
+  out = ltb (firstBad (getD rs i blank)) (held (firstEdition rs))
+
+  abbrev again : Bool
+  again = ltb (recordOn rs i (channelOf (getD rs i blank))) i
 
   not-done : recordTurn rs i ≡ Done → ⊥
   unfolding recordTurn
-  not-done e = go (ltb (firstBad (getD rs i blank)) 26) (ltb (recordOn rs i (channelOf (getD rs i blank))) i) e
+  not-done e = go unlike out again e
     where
-      go : (a b : Bool) → verdict a b ≡ Done → ⊥
-      go true b q = let z : _≡_ {A = ℕ} 0 1 = cc in omega arith
-      go false true q = let z : _≡_ {A = ℕ} 0 1 = cc in omega arith
-      go false false q = let z : _≡_ {A = ℕ} 0 1 = cc in omega arith
+      go : (a b d : Bool) → verdict a b d ≡ Done → ⊥
+      go true b d q = let z : _≡_ {A = ℕ} 0 1 = cc in omega arith
+      go false true d q = let z : _≡_ {A = ℕ} 0 1 = cc in omega arith
+      go false false true q = let z : _≡_ {A = ℕ} 0 1 = cc in omega arith
+      go false false false q = let z : _≡_ {A = ℕ} 0 1 = cc in omega arith
 
-  in-range : ltb (firstBad (getD rs i blank)) 26 ≡ false → firstBad (getD rs i blank) ≡ 26
+  in-range : ed ≡ its → out ≡ false → firstBad (getD rs i blank) ≡ held its
   unfolding firstBad
-  in-range e =
-      let w : 26 ≤ first (badByte (getD rs i blank)) 0 26 = ltb-false _ _ e in
-      omega (arith, first-within (badByte (getD rs i blank)) 26)
+  in-range q e =
+      let w : held ed ≤ first (badByte (getD rs i blank)) 0 (held its) = ltb-false (first (badByte (getD rs i blank)) 0 (held its)) (held ed) e in
+      omega (arith, first-within (badByte (getD rs i blank)) (held its), ap held q)
 
-  own-channel : ltb (recordOn rs i (channelOf (getD rs i blank))) i ≡ false → (j : ℕ) → j < i → channelOf (getD rs j blank) ≡ channelOf (getD rs i blank) → ⊥
+  own-channel : again ≡ false → Own
   unfolding recordOn
   own-channel e j l =
       let w : i ≤ first (λ j. eqb (channelOf (getD rs j blank)) (channelOf (getD rs i blank))) 0 i = ltb-false _ _ e in
@@ -58,19 +85,20 @@ module _ (rs : List Record) (i : ℕ) where
 
   more-good : recordTurn rs i ≡ More → Good
   unfolding recordTurn
-  more-good e = go (ltb (firstBad (getD rs i blank)) 26) (ltb (recordOn rs i (channelOf (getD rs i blank))) i) refl refl e
+  more-good e = go unlike out again refl refl refl e
     where
-      go : (a b : Bool) → ltb (firstBad (getD rs i blank)) 26 ≡ a → ltb (recordOn rs i (channelOf (getD rs i blank))) i ≡ b → verdict a b ≡ More → Good
-      go true b f g q = absurd (let z : _≡_ {A = ℕ} 0 1 = cc in omega arith)
-      go false true f g q = absurd (let z : _≡_ {A = ℕ} 0 1 = cc in omega arith)
-      go false false f g q = (in-range f, own-channel g)
+      go : (a b d : Bool) → unlike ≡ a → out ≡ b → again ≡ d → verdict a b d ≡ More → Good
+      go true b d f g h q = absurd (let z : _≡_ {A = ℕ} 0 1 = cc in omega arith)
+      go false true d f g h q = absurd (let z : _≡_ {A = ℕ} 0 1 = cc in omega arith)
+      go false false true f g h q = absurd (let z : _≡_ {A = ℕ} 0 1 = cc in omega arith)
+      go false false false f g h q = let z : ed ≡ its = alike-is ed its (not-false _ f) in record { edition = z; range = in-range z g; own = own-channel h }
 
   good-more : Good → recordTurn rs i ≡ More
   unfolding recordTurn recordOn
   good-more h =
       let none : first (λ j. eqb (channelOf (getD rs j blank)) (channelOf (getD rs i blank))) 0 i ≡ i =
-      first-none (λ j. eqb (channelOf (getD rs j blank)) (channelOf (getD rs i blank))) i (λ j l. ne-eqb _ _ (h .1 j l)) in
-      rw (h .0, none, le-ltb i i (omega arith))
+      first-none (λ j. eqb (channelOf (getD rs j blank)) (channelOf (getD rs i blank))) i (λ j l. ne-eqb _ _ (h .own j l)) in
+      rw (h .edition, alike-self its, h .range, le-ltb (held its) (held its) (omega arith), none, le-ltb i i (omega arith))
 
 -- ---- all records
 
@@ -133,7 +161,7 @@ module _ (text : List ℕ) (table : List Record) (count room : ℕ) (b : List �
           let good = ended-good rs n run in
           record {
             within = few;
-            allowed = record { text = sound; whole = whole; ranges = λ i l. good i l .0; apart = λ i j k l. good j l .1 i k; positions = each-right rs (k .0) };
+            allowed = record { text = sound; editions = λ i l. good i l .edition; whole = whole; ranges = λ i l. good i l .range; apart = λ i j k l. good j l .own i k; positions = each-right rs (k .0) };
             bytes = sym is;
             fits = rw (← is) (ltb-false _ _ (h .0));
           }
@@ -142,7 +170,7 @@ module _ (text : List ℕ) (table : List Record) (count room : ℕ) (b : List �
   pub may-written : MayBeWritten text table count room b → written text table count room ≡ granted b
   unfolding written afterRun
   may-written h =
-      let run : recordsRun rs ≡ Ended (length rs) = good-ended rs (λ i l. (h .allowed .ranges i l, λ j k. h .allowed .apart j i k l)) in
+      let run : recordsRun rs ≡ Ended (length rs) = good-ended rs (λ i l. record { edition = h .allowed .editions i l; range = h .allowed .ranges i l; own = λ j k. h .allowed .apart j i k l }) in
       let fits : length own ≤ room = rw (h .bytes) at (h .fits) in
       rw (le-ltb (length table) count (h .within), h .allowed .text, run, all-right rs (h .allowed .positions), le-ltb room (length own) fits, afterRun) (ap granted (sym (h .bytes)))
 

@@ -14,7 +14,7 @@ use Rattle.layout.specs.Answers.{granted, numberOf, placeOf, valueOr, afterRun,
 use Rattle.layout.specs.Group.{Group}
 use Rattle.layout.specs.Body.{groupPlace, textAt, bodyRun, bodyRead, noGroup, groupNo}
 use Rattle.layout.specs.Asked.{recordsRead}
-use Rattle.layout.specs.Write.{payloadBytes, groupBytes, Allowed, groupFrom}
+use Rattle.layout.specs.Write.{payloadBytes, groupBytes, firstEdition, Allowed, groupFrom}
 use Rattle.layout.specs.Promises.{RecordsRead, GroupWritten}
 use Rattle.law_rounds.specs.Rounds.{BodyAllowed}
 use Rattle.law_rounds.specs.Calls.{WholeTable, accepting, ReadBack}
@@ -36,6 +36,7 @@ module _ (g : Group) (a : Allowed g) where
       record {
         each = each;
         few = omega arith;
+        editions = one;
         apart = λ i j u v. absurd (omega arith);
         short = let z : length (groupBytes g ++ []) ≡ length (groupBytes g) = ap length (append-nil (groupBytes g)) in
             omega (arith, z, length-chunk CSEG (payloadBytes g) refl, payload-short g a .1);
@@ -44,6 +45,10 @@ module _ (g : Group) (a : Allowed g) where
       each : (i : ℕ) → i < 1 → Allowed (getD (g ∷ []) i noGroup)
       each zero l = a
       each (suc i) l = absurd (omega arith)
+
+      one : (i j : ℕ) → i < 1 → j < 1 → 0 < length (getD (g ∷ []) i noGroup .records) → 0 < length (getD (g ∷ []) j noGroup .records)
+          → firstEdition (getD (g ∷ []) i noGroup .records) ≡ firstEdition (getD (g ∷ []) j noGroup .records)
+      one i j u v x y = let z : i ≡ j = omega arith in ap (λ (k : ℕ). firstEdition (getD (g ∷ []) k noGroup .records)) z
 
   same : flatMap groupBytes (g ∷ []) ≡ groupBytes g
   unfolding flatMap

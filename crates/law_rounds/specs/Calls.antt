@@ -7,7 +7,7 @@ use Rattle.layout.specs.declared.record.Record.{Record}
 use Rattle.layout.specs.declared.answer.Counted.{Counted}
 use Rattle.layout.specs.declared.answer.Measured.{Measured}
 use Rattle.layout.specs.Editions.{size, held}
-use Rattle.layout.specs.Records.{bytesOf, blank, editionOf, fileBytes}
+use Rattle.layout.specs.Records.{bytesOf, blank, editionOf, secondIn, positionIn, fileBytes}
 use Rattle.layout.specs.Answers.{granted}
 use Rattle.layout.specs.Group.{groupSize}
 use Rattle.layout.specs.Body.{groupPlace}
@@ -71,10 +71,11 @@ pub record CtabChanged (before : List ℕ) (group channel : ℕ) (new : Record) 
 
 -- ---- a field
 
--- "byte index 0-25 and a value, all other fields kept"
+-- "byte index 0-25 and a value, all other fields kept"; of a Ctb2 "the screen's index runs 0-46" (document 02, §4)
 pub record FieldChanged (before : Record) (index value : ℕ) (after : Record) : Type 0 where
   pub within : index < held (editionOf before)
   pub bytes : bytesOf after ≡ set (bytesOf before) index value
-  pub second : after .second ≡ before .second
-  pub position : after .position ≡ before .position
+  pub edition : editionOf after ≡ editionOf before
+  pub second : secondIn after ≡ secondIn before
+  pub position : positionIn after ≡ positionIn before
   pub whole : Whole after

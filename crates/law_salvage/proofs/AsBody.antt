@@ -1,17 +1,18 @@
--- A sound group's own bytes taken as a body: the first turn goes on, since no earlier group shares a name, and the second is the end. No other bytes are read as one group.
+-- A sound group's own bytes taken as a body: the first turn goes on, since no earlier group shares a name or fixes an edition, and the second is the end. No other bytes are read as one group.
 use Prim.Native.Nat.{ℕ, _≤_, _<_}
 use native.Mathlib.Nat.{zero-add}
 use native.Mathlib.Omega.{arith}
 use mathlib.Core.Path.{_≡_, refl, _∙_}
 use mathlib.Core.Logic.{_↔_}
-use mathlib.Core.Bool.{false}
+use mathlib.Core.Bool.{false, and-false}
 use mathlib.Core.List.{List}
+use lib.Dec.{ltb}
 use lib.ListN.{length}
 use borrow.Author.Tests.{le-ltb}
 use Rattle.layout.specs.declared.turn.Turn.the-variants.{More, Done}
 use Rattle.layout.specs.Bytes.{four}
 use Rattle.layout.specs.Group.{headFault, groupSize}
-use Rattle.layout.specs.Body.{groupPlace, sharing, groupTurn}
+use Rattle.layout.specs.Body.{groupPlace, sharing, fixing, unlikeBody, groupTurn}
 use Rattle.layout.proofs.Runs.{run-more, run-done}
 use Rattle.layout.proofs.Groups.{cseg-tag}
 use Rattle.layout.proofs.GroupSound.{group-sound-is}
@@ -25,11 +26,16 @@ pub group-some : (g : List ℕ) → SoundGroup g → 8 < length g
 group-some g h = rw (h .whole) at (size-some g (h .edition) (h .text) (h .ctabs) (h .cntts) (h .sound))
 
 module _ (g : List ℕ) (h : SoundGroup g) where
+  -- no group before it, so none that fixes another edition
+  suits : unlikeBody g 0 (h .edition) (h .ctabs) ≡ false
+  unfolding unlikeBody
+  suits = rw (le-ltb (fixing g 0) 0 (omega arith)) (and-false (ltb 0 (h .ctabs)))
+
   goes-on : groupTurn g 0 ≡ More
   unfolding groupTurn groupPlace
   goes-on =
       let head : headFault g 0 (four 0x43534547) ≡ 0 = rw cseg-tag (group-sound-is g (h .edition) (h .text) (h .ctabs) (h .cntts) (h .sound) .head) in
-      turn-sound g 0 0 (λ z. omega (arith, group-some g h)) (headFault g 0 (four 0x43534547)) refl head (omega arith) (h .edition) (h .text) (h .ctabs) (h .cntts) false (h .sound)
+      turn-sound g 0 0 (λ z. omega (arith, group-some g h)) (headFault g 0 (four 0x43534547)) refl head (omega arith) (h .edition) (h .text) (h .ctabs) (h .cntts) (h .sound) false suits
       (le-ltb (sharing g 0 0) 0 (omega arith))
 
   ends : groupTurn g 1 ≡ Done

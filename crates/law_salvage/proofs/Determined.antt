@@ -3,10 +3,11 @@ use Prim.Native.Nat.{ℕ}
 use mathlib.Core.Path.{_≡_, sym, ap, _∙_}
 use mathlib.Core.List.{List, _++_}
 use lib.ListN.{drop}
+use Rattle.layout.specs.declared.edition.Edition.{Edition}
 use Rattle.layout.specs.declared.record.Record.{Record}
 use Rattle.layout.specs.declared.record.SecondTable.{SecondTable}
 use Rattle.layout.specs.Promises.{CasmFound, SectionShown, BodyRead, GroupFound, PartFound, ChannelFound, TextShown, RecordsRead, VoiceShown, VoiceFound}
-use Rattle.layout.specs.Promises.{PlaysTold, NotePlaced, GroupWritten, RecordEdited, FieldSet, FieldSetInPlace, Salvaged, RecordMade, BytesTold}
+use Rattle.layout.specs.Promises.{PlaysTold, NotePlaced, GroupWritten, RecordEdited, FieldSet, FieldSetInPlace, Salvaged, RecordMade, EditionTold, BytesTold}
 use Rattle.layout.specs.Listing.{listText, FileListed}
 use Rattle.law_salvage.specs.Determined.{Determines, DeterminesBoth}
 
@@ -52,8 +53,11 @@ note-placed r root note = equation _
 pub field-set : (old : Record) (index value : ℕ) → Determines (FieldSet old index value)
 field-set old index value = equation _
 
-pub record-made : (b : List ℕ) (second : SecondTable) (position : ℕ) → Determines (RecordMade b second position)
-record-made b second position = equation _
+pub record-made : (edition : Edition) (b : List ℕ) (second : SecondTable) (position : ℕ) → Determines (RecordMade edition b second position)
+record-made edition b second position = equation _
+
+pub edition-told : (r : Record) → Determines (EditionTold r)
+edition-told r = equation _
 
 pub bytes-told : (r : Record) → Determines (BytesTold r)
 bytes-told r = equation _

@@ -10,7 +10,7 @@ use lib.Dec.{ltb, eqb}
 use lib.ListN.{length, getD}
 use borrow.Author.Tests.{le-ltb, ltb-true, ltb-false, eq-eqb, ne-eqb, eqb-true, eqb-false}
 use Rattle.layout.specs.Scan.{first}
-use Rattle.layout.specs.Records.{Record, SecondTable, Absent, Value, blank}
+use Rattle.layout.specs.Records.{Record, SecondTable, Absent, Value, blank, secondIn, positionIn}
 use Rattle.layout.specs.Write.{cnttCount, cnttsIn, placedAt, atPosition, wrongPosition}
 use Rattle.layout.proofs.Pigeonhole.{Apart, pigeonhole}
 use Rattle.layout.proofs.Scans.{first-passed, first-stands, first-is}
@@ -31,17 +31,17 @@ ownerWith (Value v) h (suc j) = suc (h j)
 -- the number of the record that is the j-th with a Cntt
 pub owner : List Record → ℕ → ℕ
 owner [] j = zero
-owner (r ∷ rs) j = ownerWith (r .second) (owner rs) j
+owner (r ∷ rs) j = ownerWith (secondIn r) (owner rs) j
 
 -- each is a record with a Cntt, they rise, and no record with a Cntt is left out
 pub record Owners (rs : List Record) (m : ℕ) (h : ℕ → ℕ) : Type 0 where
   pub within : (j : ℕ) → j < m → h j < length rs
-  pub has : (j : ℕ) → j < m → cnttCount (getD rs (h j) blank .second) ≡ 1
+  pub has : (j : ℕ) → j < m → cnttCount (secondIn (getD rs (h j) blank)) ≡ 1
   pub rising : (i j : ℕ) → i < j → j < m → h i < h j
-  pub complete : (i : ℕ) → i < length rs → cnttCount (getD rs i blank .second) ≡ 1 → (j : ℕ) × (j < m) × (h j ≡ i)
+  pub complete : (i : ℕ) → i < length rs → cnttCount (secondIn (getD rs i blank)) ≡ 1 → (j : ℕ) × (j < m) × (h j ≡ i)
 
 module _ (r : Record) (rs : List Record) (m : ℕ) (h : ℕ → ℕ) (f : Owners rs m h) where
-  without : r .second ≡ Absent → Owners (r ∷ rs) m (ownerWith Absent h)
+  without : secondIn r ≡ Absent → Owners (r ∷ rs) m (ownerWith Absent h)
   unfolding cnttCount ownerWith
   without e =
       record {
@@ -51,11 +51,11 @@ module _ (r : Record) (rs : List Record) (m : ℕ) (h : ℕ → ℕ) (f : Owners
         complete = find;
       }
     where
-      find : (i : ℕ) → i < suc (length rs) → cnttCount (getD (r ∷ rs) i blank .second) ≡ 1 → (j : ℕ) × (j < m) × (suc (h j) ≡ i)
+      find : (i : ℕ) → i < suc (length rs) → cnttCount (secondIn (getD (r ∷ rs) i blank)) ≡ 1 → (j : ℕ) × (j < m) × (suc (h j) ≡ i)
       find zero l q = let z : _≡_ {A = ℕ} 0 1 = rw e at q in absurd (omega arith)
       find (suc i) l q = let x = f .complete i (omega arith) q in (x .0, x .1, ap suc (x .2))
 
-  withOne : (v : ℕ) → r .second ≡ Value v → Owners (r ∷ rs) (suc m) (ownerWith (Value v) h)
+  withOne : (v : ℕ) → secondIn r ≡ Value v → Owners (r ∷ rs) (suc m) (ownerWith (Value v) h)
   unfolding cnttCount ownerWith
   withOne v e = record { within = within; has = has; rising = rising; complete = find }
     where
@@ -63,7 +63,7 @@ module _ (r : Record) (rs : List Record) (m : ℕ) (h : ℕ → ℕ) (f : Owners
       within zero l = omega arith
       within (suc j) l = omega (arith, f .within j (omega arith))
 
-      has : (j : ℕ) → j < suc m → cnttCount (getD (r ∷ rs) (ownerWith (Value v) h j) blank .second) ≡ 1
+      has : (j : ℕ) → j < suc m → cnttCount (secondIn (getD (r ∷ rs) (ownerWith (Value v) h j) blank)) ≡ 1
       has zero l = rw e
       has (suc j) l = f .has j (omega arith)
 
@@ -72,7 +72,7 @@ module _ (r : Record) (rs : List Record) (m : ℕ) (h : ℕ → ℕ) (f : Owners
       rising zero (suc j) k l = omega arith
       rising (suc i) (suc j) k l = omega (arith, f .rising i j (omega arith) (omega arith))
 
-      find : (i : ℕ) → i < suc (length rs) → cnttCount (getD (r ∷ rs) i blank .second) ≡ 1 → (j : ℕ) × (j < suc m) × (ownerWith (Value v) h j ≡ i)
+      find : (i : ℕ) → i < suc (length rs) → cnttCount (secondIn (getD (r ∷ rs) i blank)) ≡ 1 → (j : ℕ) × (j < suc m) × (ownerWith (Value v) h j ≡ i)
       find zero l q = (0, omega arith, refl)
       find (suc i) l q = let x = f .complete i (omega arith) q in (suc (x .0), omega (arith, x .1), ap suc (x .2))
 
@@ -85,9 +85,9 @@ owners [] =
       rising = λ i j k l. absurd (omega arith);
       complete = λ i l q. absurd (omega arith);
     }
-owners (r ∷ rs) = go (r .second) refl (owners rs)
+owners (r ∷ rs) = go (secondIn r) refl (owners rs)
   where
-    go : (o : SecondTable) → r .second ≡ o → Owners rs (cnttsIn rs) (owner rs) → Owners (r ∷ rs) (cnttCount o + cnttsIn rs) (ownerWith o (owner rs))
+    go : (o : SecondTable) → secondIn r ≡ o → Owners rs (cnttsIn rs) (owner rs) → Owners (r ∷ rs) (cnttCount o + cnttsIn rs) (ownerWith o (owner rs))
     go Absent e f = let z : 0 + cnttsIn rs ≡ cnttsIn rs = omega arith in rw z (without r rs (cnttsIn rs) (owner rs) f e)
     go (Value v) e f = let z : 1 + cnttsIn rs ≡ suc (cnttsIn rs) = omega arith in rw z (withOne r rs (cnttsIn rs) (owner rs) f v e)
 
@@ -99,10 +99,10 @@ cntts-most rs = pigeonhole (length rs) (cnttsIn rs) (owner rs) (owners rs .withi
 
 module _ (rs : List Record) where
   abbrev has : ℕ → ℕ
-  has i = cnttCount (getD rs i blank .second)
+  has i = cnttCount (secondIn (getD rs i blank))
 
   abbrev position : ℕ → ℕ
-  position i = getD rs i blank .position
+  position i = positionIn (getD rs i blank)
 
   -- "records without a Cntt have 0 and the others 1 to their number, each once"
   pub record Positions : Type 0 where
@@ -165,7 +165,7 @@ module _ (rs : List Record) where
 
     pub right-positions : (i : ℕ) → i < length rs → wrongPosition rs i ≡ false
     unfolding wrongPosition
-    right-positions i l = go (one-or-none (getD rs i blank .second))
+    right-positions i l = go (one-or-none (secondIn (getD rs i blank)))
       where
         go : (has i ≡ 0) ⊎ (has i ≡ 1) → wrongPosition rs i ≡ false
         go (inl e) = rw (eq-eqb (has i) 0 e) (le-ltb 0 (position i) (omega (arith, p .none i l e)))

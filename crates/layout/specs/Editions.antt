@@ -1,5 +1,6 @@
 -- The editions of the layout, and what they differ in besides their ranges (document 01, "The CASM body"; document 02, §4; 001, 1.1 and 1.2).
 use Prim.Native.Nat.{ℕ}
+use mathlib.Core.Bool.{Bool, true, false}
 use mathlib.Core.List.{List, [], _∷_}
 use Rattle.layout.specs.Bytes.{Ctab, Ctb2}
 pub use Rattle.layout.specs.declared.edition.Edition.{Edition}
@@ -24,3 +25,15 @@ held Second = 47
 abbrev pub closing : Edition → List ℕ
 closing First = 0 ∷ []
 closing Second = []
+
+-- of the 47 bytes that a record of either edition may hold, those that this one does not
+abbrev pub spare : Edition → ℕ
+spare First = 21
+spare Second = 0
+
+-- two editions are the same
+unfoldable pub alike : Edition → Edition → Bool
+alike First First = true
+alike First Second = false
+alike Second First = false
+alike Second Second = true

@@ -1,4 +1,4 @@
-// The numbers of refusal (document 01, "Numbers of refusal"; 18, document 02, §1), under the names of the definitions; 0 accepts.
+// The numbers of refusal (document 01, "Numbers of refusal"; 18, document 02, §1; 21, §4), under the names of the definitions; 0 accepts.
 pub const NOT_STYLE: u8 = 1;
 
 pub const CUT: u8 = 2;
@@ -34,3 +34,5 @@ pub const BAD_NUMBER: u8 = 16;
 pub const ROOT_FIXED: u8 = 17;
 
 pub const BAD_POSITIONS: u8 = 18;
+
+pub const OTHER_EDITION: u8 = 21;

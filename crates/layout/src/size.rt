@@ -14,7 +14,5 @@ pub const CTB2_STRIDE: usize = 55;
 pub const CNTT_BYTES: usize = 2;
 
 pub const CNTT_STRIDE: usize = 10;
-// A Ctab and a Cntt, with their headers.
-pub const CTAB_AND_CNTT: usize = 45;
 // A record as it crosses to C: its edition, its bytes, whether there is a Cntt, its value and its position.
 pub const ROW: usize = 51;

@@ -4,7 +4,7 @@ use native.Mathlib.Numerals.{add-one}
 use native.Mathlib.Omega.{arith}
 use native.Mathlib.Decide.{decLt}
 use mathlib.Core.Path.{_≡_, refl, sym, ap, _∙_}
-use mathlib.Core.Bool.{Bool, cond}
+use mathlib.Core.Bool.{Bool, true, false, cond}
 use mathlib.Core.List.{List}
 use lib.ListN.{length, getD, set, take, drop, length-drop, length-set}
 use lib.Dec.{ltb}
@@ -13,7 +13,7 @@ use Rattle.layout.specs.Bytes.{word, four, CSEG}
 use Rattle.layout.specs.Refusals.{nameAgain}
 use Rattle.layout.specs.Group.{headFault, groupAt}
 use Rattle.layout.specs.Scan.{first, run}
-use Rattle.layout.specs.Body.{groupPlace, sharing, groupTurnAt, groupTurn}
+use Rattle.layout.specs.Body.{groupPlace, sharing, unlikeBody, groupTurnAt, groupTurn}
 use Rattle.layout.specs.declared.edition.Edition.{Edition}
 use Rattle.layout.specs.declared.edition.Edition.the-variants.{First}
 use Rattle.layout.specs.declared.turn.Turn.{Turn}
@@ -27,12 +27,12 @@ use Rattle.layout.proofs.GroupPlaces.{group-place}
 use Rattle.layout.proofs.GroupSound.{group-sound-is}
 use Rattle.layout.proofs.HeadsThere.{head-drop}
 use Rattle.layout.proofs.Sixteen.{group-sixteen, group-cntts}
-use Rattle.layout.proofs.Bodies.{turn-end, turn-head, turn-many, turn-unsound, turn-sound, group-there}
+use Rattle.layout.proofs.Bodies.{turn-end, turn-head, turn-many, turn-unsound, turn-unlike, turn-sound, group-there}
 use Rattle.layout.proofs.Accepted.{body-within}
 use Rattle.read_met.specs.Before.{Places, again}
 use Rattle.read_body.specs.declared.survey.Turned.{Turned}
 use Rattle.read_body.specs.declared.survey.Entered.{Entered}
-use Rattle.read_body.specs.Known.{Insides, afterNames, GroupTurned, GroupsEntered, Surveyed}
+use Rattle.read_body.specs.Known.{Insides, afterNames, GroupTurned, GroupsEntered, BodySurveyed}
 
 pub refused-not-more : (a b : ℕ) → Refused a b ≡ More → ⊥
 refused-not-more a b e = let z : _≡_ {A = ℕ} 0 1 = cc in omega arith
@@ -68,7 +68,7 @@ module _ (s : List ℕ) (n at : ℕ) (here : at ≡ groupPlace s n) (r : Turned)
   ended : (t : Turn) → r .turn ≡ t → groupTurnAt s n at ≡ t → ((b : Bool) → afterNames b at t ≡ t) → (t ≡ More → ⊥) → GroupTurned s n at r
   unfolding groupTurn
   ended t e q stays over =
-      record { turn = ap (groupTurnAt s n) (sym here) ∙ (q ∙ sym (ap (afterNames (again s n) at) e ∙ stays (again s n))); few = λ m. absurd (over (sym e ∙ m)); sound = λ m. absurd (over (sym e ∙ m)) }
+      record { turn = ap (groupTurnAt s n) (sym here) ∙ (q ∙ sym (ap (afterNames (again s n) at) e ∙ stays (again s n))); few = λ m. absurd (over (sym e ∙ m)); like = λ m. absurd (over (sym e ∙ m)); sound = λ m. absurd (over (sym e ∙ m)) }
 
   pub turned-end : at ≡ length s → r .turn ≡ Done → GroupTurned s n at r
   unfolding afterNames
@@ -90,16 +90,23 @@ module _ (s : List ℕ) (n at : ℕ) (here : at ≡ groupPlace s n) (r : Turned)
         pub turned-unsound : (number place : ℕ) → groupAt (from s at) ≡ Unsound number place → r .turn ≡ Refused number (at + place) → GroupTurned s n at r
         turned-unsound number place g t = refusing number (at + place) t (turn-unsound s n at o f e z w number place (rw (from-there s at h) at g))
 
-        -- one that goes on does so unless a name stands in an earlier group
-        pub turned-more : (ed : Edition) (t c m : ℕ) → groupAt (from s at) ≡ Sound ed t c m → r .turn ≡ More → r .records ≡ c → r .seconds ≡ m → GroupTurned s n at r
-        unfolding groupTurn afterNames again
-        turned-more ed t c m g v x y =
-            let sound-there : groupAt (drop at s) ≡ Sound ed t c m = rw (from-there s at h) at g in
-            record {
-              turn = ap (groupTurnAt s n) (sym here) ∙ (turn-sound s n at o f e z w ed t c m (ltb (sharing s n at) n) sound-there refl ∙ rw (v, here) refl);
-              few = λ _. w;
-              sound = λ _. rw (x, y, group-sound-is (drop at s) ed t c m sound-there .edition, ← (text-is s at h ed t c m g .0)) sound-there;
-            }
+        module _ (ed : Edition) (t c m : ℕ) (g : groupAt (from s at) ≡ Sound ed t c m) where
+          sound-there : groupAt (drop at s) ≡ Sound ed t c m
+          sound-there = rw (from-there s at h) at g
+
+          pub turned-unlike : unlikeBody s n ed c ≡ true → r .turn ≡ Refused 21 at → GroupTurned s n at r
+          turned-unlike u q = refusing 21 at q (turn-unlike s n at o f e z w ed t c m sound-there u)
+
+          -- one that goes on does so unless a name stands in an earlier group
+          pub turned-more : unlikeBody s n ed c ≡ false → r .turn ≡ More → r .edition ≡ ed → r .records ≡ c → r .seconds ≡ m → GroupTurned s n at r
+          unfolding groupTurn afterNames again
+          turned-more u v d x y =
+              record {
+                turn = ap (groupTurnAt s n) (sym here) ∙ (turn-sound s n at o f e z w ed t c m sound-there (ltb (sharing s n at) n) u refl ∙ rw (v, here) refl);
+                few = λ _. w;
+                like = λ _. rw (d, x) u;
+                sound = λ _. rw (d, x, y, ← (text-is s at h ed t c m g .0)) sound-there;
+              }
 
 -- ---- the tables: empty at the start, one entry for each turn that goes on
 
@@ -116,8 +123,8 @@ module _ (s : List ℕ) where
   pub places-start : (t : List ℕ) → length t ≡ 32 → Places s 0 t
   places-start t e = record { size = e; place = λ k l. absurd (omega arith); fits = λ k l. absurd (omega arith) }
 
-  pub insides-start : (t u : List ℕ) → length t ≡ 32 → length u ≡ 32 → Insides s 0 t u
-  insides-start t u e f = record { sizes = (e, f); sound = λ k l. absurd (omega arith) }
+  pub insides-start : (t u : List ℕ) (body : Edition) → length t ≡ 32 → length u ≡ 32 → Insides s 0 t u body
+  insides-start t u body e f = record { sizes = (e, f); sound = λ k l. absurd (omega arith) }
 
   module _ (n at : ℕ) (l : n < 32) (here : at ≡ groupPlace s n) where
     pub places-next : (t : List ℕ) → Places s n t → at + 16 + word s (at + 12) ≤ length s → Places s (n + 1) (set t n at)
@@ -132,25 +139,10 @@ module _ (s : List ℕ) where
         go k a (yes b) = known .fits k b
         go k a (no b) = let q : k ≡ n = omega arith in rw (q, ← here) h
 
-    pub insides-next : (t u : List ℕ) (x y : ℕ) → Insides s n t u → groupAt (drop at s) ≡ Sound First (word s (at + 12)) x y → Insides s (n + 1) (set t n x) (set u n y)
-    insides-next t u x y known h =
-        record {
-          sizes = (length-set t n x ∙ known .sizes .0, length-set u n y ∙ known .sizes .1);
-          sound = λ k a. go k a (decLt k n);
-        }
-      where
-        go : (k : ℕ) → k < n + 1 → Dec (k < n) → groupAt (drop (groupPlace s k) s) ≡ Sound First (word s (groupPlace s k + 12)) (getD (set t n x) k 0) (getD (set u n y) k 0)
-        go k a (yes b) =
-            let q : k ≡ n → ⊥ = λ e. absurd (omega arith) in
-            rw (getD-set-other t n k x 0 q, getD-set-other u n k y 0 q) (known .sound k b)
-        go k a (no b) =
-            let q : k ≡ n = omega arith in
-            rw (q, ← here, getD-set-same t n x 0 (omega (arith, known .sizes .0)), getD-set-same u n y 0 (omega (arith, known .sizes .1))) h
-
 -- a group has at most sixteen Ctabs and Cntts, which a byte counts
-pub counts-small : (s : List ℕ) (at x y : ℕ) → groupAt (drop at s) ≡ Sound First (word s (at + 12)) x y → (x < 256) × (y < 256)
-counts-small s at x y h =
-    (omega (arith, group-sixteen (drop at s) First (word s (at + 12)) x y h), omega (arith, group-cntts (drop at s) First (word s (at + 12)) x y h))
+pub counts-small : (s : List ℕ) (at : ℕ) (e : Edition) (x y : ℕ) → groupAt (drop at s) ≡ Sound e (word s (at + 12)) x y → (x < 256) × (y < 256)
+counts-small s at e x y h =
+    (omega (arith, group-sixteen (drop at s) e (word s (at + 12)) x y h), omega (arith, group-cntts (drop at s) e (word s (at + 12)) x y h))
 
 -- the group is one of 32, and it and its text stand within the body
 abbrev pub Fitting : List ℕ → ℕ → ℕ → Type 0
@@ -159,7 +151,7 @@ Fitting s n at = (n < 32) × ((at + 8 + word s (at + 4) ≤ length s) × (at + 1
 -- so it is where a turn goes on
 pub more-within : (s : List ℕ) (n at : ℕ) (r : Turned) → GroupTurned s n at r → at ≡ groupPlace s n → at ≤ length s → r .turn ≡ More → Fitting s n at
 more-within s n at r turned here h m =
-    let g = group-there s n at First (word s (at + 12)) (r .records) (r .seconds) h (turned .sound m) in
+    let g = group-there s n at (r .edition) (word s (at + 12)) (r .records) (r .seconds) h (turned .sound m) in
     (turned .few m, (g .1 .1, omega (arith, g .1 .0, g .1 .1)))
 
 -- .. and it does unless a name stands in an earlier group
@@ -202,8 +194,8 @@ module _ (s : List ℕ) (r : Entered) (places records seconds : List ℕ) (h : l
   fresh k j e l w = entered .turns j (omega arith) ∙ rw (first-passed (again s) (r .groups) j (rw e at l)) refl
 
   module _ (k : ℕ) (e : k ≡ first (again s) 0 (r .groups)) where
-    pub names-again : k < r .groups → Surveyed s (Stopped 13 (getD places k 0)) places records seconds
-    names-again l =
+    pub names-again : k < r .groups → (body : Edition) → BodySurveyed s (Stopped 13 (getD places k 0)) body places records seconds
+    names-again l body =
         record {
           run = sym (body-within s h ∙ (run-from (groupTurn s) 33 k (omega (arith, entered .few)) (λ j q. fresh k j e q (omega arith))
               ∙ run-stop (groupTurn s) k 33 13 (getD places k 0) (omega (arith, entered .few))
@@ -211,7 +203,7 @@ module _ (s : List ℕ) (r : Entered) (places records seconds : List ℕ) (h : l
           known = λ n q. not-ended _ _ n q;
         }
 
-    pub names-apart : r .groups ≤ k → Surveyed s (r .run) places records seconds
+    pub names-apart : r .groups ≤ k → BodySurveyed s (r .run) (r .edition) places records seconds
     names-apart l =
         let w : k ≡ r .groups = omega (arith, e, first-within (again s) (r .groups)) in
         record {

@@ -12,10 +12,8 @@ use Rattle.layout.specs.Body.{groupPlace, bodyRun}
 use Rattle.layout.specs.Asked.{standingAt, standing, ofGroup, groupNamed, ofPart}
 use Rattle.layout.specs.declared.turn.Run.{Run}
 use Rattle.layout.specs.declared.turn.Run.the-variants.{Stopped, Ended}
-use Rattle.layout.specs.declared.edition.Edition.the-variants.{First}
 use Rattle.layout.specs.Group.{ctabPlace}
 use Rattle.layout.specs.declared.answer.Standing.{Standing}
-use Rattle.layout.proofs.GroupSound.{group-sound-is}
 use Rattle.layout.proofs.Bodies.{group-there}
 use Rattle.layout.proofs.Accepted.{body-accepted}
 use Rattle.read_find.specs.declared.Search.{Search}
@@ -24,7 +22,6 @@ use Rattle.read_find.specs.Find.{among, numbered, groupLocated, partLoca
 
 -- the parts of a group stand within the body
 pub record Within (s : List ℕ) (x : Standing) : Type 0 where
-  pub edition : First ≡ x .edition
   pub text : x .text + x .length ≤ length s
   pub ctabs : ctabPlace (x .edition) (x .ctabs) (x .records) ≤ length s
   pub cntts : x .cntts + 10 * x .seconds ≤ length s
@@ -36,7 +33,7 @@ standing-within s n g e l =
     let a = body-accepted s n e in
     let m = a .each g l in
     let t = group-there s g (groupPlace s g) (m .edition) (m .text) (m .ctabs) (m .cntts) (a .within g l) (m .sound) in
-    rw (m .sound, standingAt) (record { edition = group-sound-is (drop (groupPlace s g) s) (m .edition) (m .text) (m .ctabs) (m .cntts) (m .sound) .edition; text = omega (arith, t .1 .0, t .1 .1); ctabs = omega (arith, t .1 .0, t .1 .1); cntts = omega (arith, t .1 .0, t .1 .1) })
+    rw (m .sound, standingAt) (record { text = omega (arith, t .1 .0, t .1 .1); ctabs = omega (arith, t .1 .0, t .1 .1); cntts = omega (arith, t .1 .0, t .1 .1) })
 
 -- ---- what a search says of the body
 

@@ -8,6 +8,7 @@ use lib.Seq.{take-nil, take-all}
 use Rattle.layout.specs.Bytes.{word}
 use Rattle.layout.specs.Answers.{refused, granted, numberOf, placeOf, valueOr, afterRun, partOf, counted, named, nowhere, grouped}
 use Rattle.layout.specs.Body.{groupPlace, textAt, bodyRun, bodyRead}
+use Rattle.layout.specs.declared.edition.Edition.{Edition}
 use Rattle.layout.specs.Asked.{standingAt, standing, groupFound, partFound, channelFound, channelled, textOf}
 use Rattle.layout.specs.declared.turn.Run.the-variants.{Stopped, Ended}
 use Rattle.layout.specs.declared.answer.Counted.{Counted}
@@ -84,9 +85,9 @@ module _ (s : List ℕ) (g channel : ℕ) where
   unfolding channelFound channelled numberOf placeOf valueOr
   channel-no a b h = rw (record-refused s g channel (λ row. granted row) a b h)
 
-  pub channel-at : (i at : ℕ) → sought (channelFound s g channel) ≡ At i at → _≡_ {A = Channelled} (record { number = 0; place = 0; row = i; at = at }) (channelled (channelFound s g channel))
+  pub channel-at : (e : Edition) (i at : ℕ) → sought (channelFound s g channel) ≡ At e i at → _≡_ {A = Channelled} (record { number = 0; place = 0; row = i; at = at }) (channelled (channelFound s g channel))
   unfolding channelFound channelled numberOf placeOf valueOr
-  channel-at i at h = rw (record-there s g channel (λ row. granted row) i at h)
+  channel-at e i at h = rw (record-there s g channel (λ row. granted row) e i at h)
 
 -- ---- the text of a group
 

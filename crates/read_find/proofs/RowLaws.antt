@@ -14,7 +14,8 @@ use Rattle.layout.specs.Asked.{Whereabouts, standing, ofGroup, rowOf, rowIn, of
 use Rattle.layout.specs.declared.turn.Run.{Run}
 use Rattle.layout.specs.declared.turn.Run.the-variants.{Stopped, Ended}
 use Rattle.layout.specs.declared.answer.Standing.{Standing}
-use Rattle.layout.proofs.Editions.{size-least}
+use Rattle.layout.specs.declared.edition.Edition.{Edition}
+use Rattle.layout.specs.Editions.{size}
 use Rattle.layout.proofs.Ctabs.{place-before}
 use Rattle.read_find.specs.declared.Search.the-variants.{Refused, Missing}
 use Rattle.read_find.specs.declared.row.Sought.the-variants.{Refused as No, At}
@@ -42,7 +43,7 @@ module _ (s : List ℕ) (g channel : ℕ) where
     unfolding sought
     row-none h = let q : channelFound s g channel ≡ refused 15 0 = asked ∙ rw (le-leb (x .records) i h) in rw q
 
-    pub row-there : i < x .records → At i (ctabPlace (x .edition) (x .ctabs) i + 8) ≡ sought (channelFound s g channel)
+    pub row-there : i < x .records → At (x .edition) i (ctabPlace (x .edition) (x .ctabs) i + 8) ≡ sought (channelFound s g channel)
     unfolding sought
     row-there h = let q : channelFound s g channel ≡ granted (rowOf x i) = asked ∙ rw (lt-leb (x .records) i h) in rw q
 
@@ -83,32 +84,33 @@ module _ (s : List ℕ) (g channel : ℕ) where
         go (refused c d) q = let y : c ≡ a = cc in let z : d ≡ b = cc in rw (y, z)
         go (granted r) q = absurd (let z : _≡_ {A = ℕ} 0 1 = cc in omega arith)
 
-    pub record-there : (i at : ℕ) → sought (channelFound s g channel) ≡ At i at → ofRecord s g channel ask ≡ ask (record { index = i; at = at })
+    pub record-there : (e : Edition) (i at : ℕ) → sought (channelFound s g channel) ≡ At e i at → ofRecord s g channel ask ≡ ask (record { edition = e; index = i; at = at })
     unfolding sought onRow
-    record-there i at h = of-row ∙ go (channelFound s g channel) h
+    record-there e i at h = of-row ∙ go (channelFound s g channel) h
       where
-        go : (x : Answer Whereabouts) → sought x ≡ At i at → onRow ask x ≡ ask (record { index = i; at = at })
+        go : (x : Answer Whereabouts) → sought x ≡ At e i at → onRow ask x ≡ ask (record { edition = e; index = i; at = at })
         go (refused c d) q = absurd (let z : _≡_ {A = ℕ} 0 1 = cc in omega arith)
-        go (granted r) q = let y : r .index ≡ i = cc in let z : r .at ≡ at = cc in rw (← y, ← z)
+        go (granted r) q = let w : r .edition ≡ e = cc in let y : r .index ≡ i = cc in let z : r .at ≡ at = cc in rw (← w, ← y, ← z)
 
   -- a record that was found stands within the body
-  pub record-within : (i at : ℕ) → sought (channelFound s g channel) ≡ At i at → at + 27 ≤ length s
+  pub record-within : (f : Edition) (i at : ℕ) → sought (channelFound s g channel) ≡ At f i at → at + size f ≤ length s
   unfolding channelFound ofGroup ofChannel afterRun sought
-  record-within i at h = go (bodyRun s) refl h
+  record-within f i at h = go (bodyRun s) refl h
     where
-      there : (n : ℕ) → bodyRun s ≡ Ended n → (a b : Bool) → leb n g ≡ a → lacks ≡ b → sought (cond a (refused 16 0) (cond b (refused 15 0) (granted found))) ≡ At i at → at + 27 ≤ length s
+      there : (n : ℕ) → bodyRun s ≡ Ended n → (a b : Bool) → leb n g ≡ a → lacks ≡ b → sought (cond a (refused 16 0) (cond b (refused 15 0) (granted found))) ≡ At f i at → at + size f ≤ length s
       there n e true b u v q = absurd (let z : _≡_ {A = ℕ} 0 1 = cc in omega arith)
       there n e false true u v q = absurd (let z : _≡_ {A = ℕ} 0 1 = cc in omega arith)
       there n e false false u v q =
           let y : found .at ≡ at = cc in
-          omega (
+          let w : standing s g .edition ≡ f = cc in
+          rw (← w)
+          (omega (
             arith,
             y,
             standing-within s n g e (leb-false n g u) .ctabs,
-            size-least (standing s g .edition),
             place-before (standing s g .edition) (standing s g .ctabs) (rowIn s (standing s g) channel) (standing s g .records) (leb-false (standing s g .records) (rowIn s (standing s g) channel) v),
-          )
+          ))
 
-      go : (r : Run) → bodyRun s ≡ r → sought (afterRun r (λ n. cond (leb n g) (refused 16 0) (cond lacks (refused 15 0) (granted found)))) ≡ At i at → at + 27 ≤ length s
+      go : (r : Run) → bodyRun s ≡ r → sought (afterRun r (λ n. cond (leb n g) (refused 16 0) (cond lacks (refused 15 0) (granted found)))) ≡ At f i at → at + size f ≤ length s
       go (Stopped a b) e q = absurd (let z : _≡_ {A = ℕ} 0 1 = cc in omega arith)
       go (Ended n) e q = there n e (leb n g) lacks refl refl q

@@ -4,7 +4,7 @@ use Rattle.layout.specs.Asked.{Whereabouts}
 use Rattle.read_find.specs.declared.row.Sought.{Sought}
 use Rattle.read_find.specs.declared.row.Sought.the-variants.{Refused, At}
 
--- a refusal, or the record's number and the place of its byte 0
+-- a refusal, or the record's edition, its number and the place of its byte 0
 unfoldable pub sought : Answer Whereabouts → Sought
 sought (refused number place) = Refused number place
-sought (granted row) = At (row .index) (row .at)
+sought (granted row) = At (row .edition) (row .index) (row .at)

@@ -8,10 +8,9 @@ ghost use lib.ListN.{length, drop};
 ghost use Rattle.layout.specs.Bytes.{word};
 ghost use Rattle.layout.specs.Group.{groupAt};
 ghost use Rattle.layout.specs.Asked.{standingAt};
-ghost use Rattle.layout.specs.declared.edition.Edition.the-variants.{First};
 ghost use Rattle.layout.specs.declared.turn.Judged.the-variants.{Sound};
 ghost use Rattle.read_met.specs.Before.{Places};
-ghost use Rattle.read_body.specs.Known.{Insides};
+ghost use Rattle.read_body.specs.Known.{editionWith, Insides};
 ghost use Rattle.read_find.specs.Find.{numbered, groupLocated, partLocated};
 use layout::answer::Standing;
 use layout::edition::Edition;
@@ -30,23 +29,33 @@ pub enum Search {
     Found(usize, Standing),
 }
 
-// Where the parts of the group at `at` stand, which has so many Ctabs and Cntts.
-fn standing_at(s: &[u8], at: usize, records: u8, seconds: u8) -> Standing
-    requires { ⌜ (at ≤ length (now s)) × (groupAt (drop at (now s)) ≡ Sound First (word (now s) (at + 12)) records seconds) ⌝ }
+// The edition of a group of so many records in a body of an edition.
+fn edition_with(body: Edition, records: u8) -> Edition
+    ensures { λ e. ⌜ e ≡ editionWith body records ⌝ }
+{
+    if records == 0 {
+        return Edition::First;
+    }
+    body
+}
+
+// Where the parts of the group at `at` stand, which is of an edition and has so many Ctabs and Cntts.
+fn standing_at(s: &[u8], at: usize, edition: Edition, records: u8, seconds: u8) -> Standing
+    requires { ⌜ (at ≤ length (now s)) × (groupAt (drop at (now s)) ≡ Sound edition (word (now s) (at + 12)) records seconds) ⌝ }
     ensures { λ r. ⌜ r ≡ standingAt (now (s .entry)) at (groupAt (drop at (now (s .entry)))) ⌝ }
 {
     let length = read_bytes::word_at(s, at + 12);
     let ctabs = at + 16 + length;
     let n = records as usize;
     Standing {
-        edition: Edition::First,
+        edition: edition,
         at: at,
         size: 8 + read_bytes::word_at(s, at + 4),
         text: at + 16,
         length: length,
         ctabs: ctabs,
         records: n,
-        cntts: ctab_place(Edition::First, s, ctabs, n),
+        cntts: ctab_place(edition, s, ctabs, n),
         seconds: seconds as usize,
     }
 }
@@ -55,18 +64,26 @@ fn standing_at(s: &[u8], at: usize, records: u8, seconds: u8) -> Standing
 fn group_numbered<'a>(
     s: &[u8],
     n: usize,
+    body: Edition,
     places: &'a [u16; GROUPS],
     records: &'a [u8; GROUPS],
     seconds: &'a [u8; GROUPS],
     k: usize,
 ) -> Search
-    requires { ⌜ (n ≤ 32) × (Places (now s) n (now places) × Insides (now s) n (now records) (now seconds)) ⌝ }
+    requires { ⌜ (n ≤ 32) × (Places (now s) n (now places) × Insides (now s) n (now records) (now seconds) body) ⌝ }
     ensures { λ r. ⌜ r ≡ numbered (now (s .entry)) n k ⌝ }
 {
     if n <= k {
         return Search::Missing;
     }
-    let standing = standing_at(s, read_met::wide(places[k]), records[k], seconds[k]);
+    let edition = edition_with(body, records[k]);
+    let standing = standing_at(
+        s,
+        read_met::wide(places[k]),
+        edition,
+        records[k],
+        seconds[k],
+    );
     Search::Found(k, standing)
 }
 
@@ -77,9 +94,12 @@ pub fn locate_group(s: &[u8], group: usize) -> Search
     let mut places: [u16; GROUPS] = [0; GROUPS];
     let mut records: [u8; GROUPS] = [0; GROUPS];
     let mut seconds: [u8; GROUPS] = [0; GROUPS];
-    match read_groups(s, &mut places, &mut records, &mut seconds) {
+    let read = read_groups(s, &mut places, &mut records, &mut seconds);
+    let edition = read.edition;
+    let run = read.run;
+    match run {
         Run::Stopped(number, place) => Search::Refused(number, place),
-        Run::Ended(n) => group_numbered(s, n, &places, &records, &seconds, group),
+        Run::Ended(n) => group_numbered(s, n, edition, &places, &records, &seconds, group),
     }
 }
 
@@ -90,11 +110,14 @@ pub fn locate_part(s: &[u8], name: &[u8]) -> Search
     let mut places: [u16; GROUPS] = [0; GROUPS];
     let mut records: [u8; GROUPS] = [0; GROUPS];
     let mut seconds: [u8; GROUPS] = [0; GROUPS];
-    match read_groups(s, &mut places, &mut records, &mut seconds) {
+    let read = read_groups(s, &mut places, &mut records, &mut seconds);
+    let edition = read.edition;
+    let run = read.run;
+    match run {
         Run::Stopped(number, place) => Search::Refused(number, place),
         Run::Ended(n) => {
             let k = read_met::group_named(s, n, &places, name);
-            group_numbered(s, n, &places, &records, &seconds, k)
+            group_numbered(s, n, edition, &places, &records, &seconds, k)
         }
     }
 }

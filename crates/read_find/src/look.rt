@@ -42,7 +42,9 @@ pub fn read_body(s: &[u8]) -> Counted
     let mut places: [u16; GROUPS] = [0; GROUPS];
     let mut records: [u8; GROUPS] = [0; GROUPS];
     let mut seconds: [u8; GROUPS] = [0; GROUPS];
-    match read_body::survey::read_groups(s, &mut places, &mut records, &mut seconds) {
+    let read = read_body::survey::read_groups(s, &mut places, &mut records, &mut seconds);
+    let run = read.run;
+    match run {
         Run::Stopped(number, place) => Counted {
             number: number,
             place: place,
@@ -130,7 +132,7 @@ pub fn find_channel(s: &[u8], group: usize, channel: SourceChannel) -> Channelle
             row: 0,
             at: 0,
         },
-        Sought::At(row, at) => Channelled {
+        Sought::At(_, row, at) => Channelled {
             number: 0,
             place: 0,
             row: row,

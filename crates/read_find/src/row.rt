@@ -17,8 +17,8 @@ use read_record::edition::ctab_place;
 pub enum Sought {
     // The number of the refusal, and its place.
     Refused(u8, usize),
-    // The record's number among the Ctabs of its group, and the place of its byte 0.
-    At(usize, usize),
+    // The record's edition, its number among the Ctabs of its group, and the place of its byte 0.
+    At(Edition, usize, usize),
 }
 
 // The number of the first of n Ctabs of an edition from p on that has this source channel, or n where none has.
@@ -49,7 +49,7 @@ pub fn find_record(s: &[u8], group: usize, channel: SourceChannel) -> Sought
             if x.records <= row {
                 return Sought::Refused(NOT_THERE, 0);
             }
-            Sought::At(row, ctab_place(edition, s, x.ctabs, row) + 8)
+            Sought::At(edition, row, ctab_place(edition, s, x.ctabs, row) + 8)
         }
     }
 }

@@ -55,7 +55,7 @@ fn ctab_turn(edition: Edition, c: &[u8], p: usize, n: usize, seen: &[bool; CHANN
     if read_bytes::word_at(c, at + 4) != size {
         return Turn::Refused(BAD_SIZE, at);
     }
-    let k = first_out(edition, c, at + 8, size);
+    let k = first_out(edition, c, at + 8);
     if k < size {
         return Turn::Refused(OUT_OF_RANGE, at + 8 + k);
     }

@@ -5,22 +5,37 @@ pub mod ctb2;
 ghost use mathlib.Core.Path.{_≡_};
 ghost use Prim.Native.Nat.{_+_, _≤_, _<_};
 ghost use lib.ListN.{length};
-ghost use Rattle.layout.specs.Editions.{size};
+ghost use Rattle.layout.specs.Editions.{size, held};
 ghost use Rattle.layout.specs.Ranges.{outOf, firstOut, cnttValue};
 use crate::ctab::first_out_ctab;
 use crate::ctab::is_out_ctab;
 use crate::ctb2::first_out_ctb2;
 use crate::ctb2::is_out_ctb2;
 use layout::edition::Edition;
+use layout::size::HELD;
+use layout::size::RECORD;
+use layout::size::SECOND_RECORD;
 
-// The first of the n bytes of a record of an edition from `at` that is out of its range, or n where none is.
-pub fn first_out(edition: Edition, s: &[u8], at: usize, n: usize) -> usize
-    requires { ⌜ (n ≤ size edition) × (at + n ≤ length (now s)) ⌝ }
-    ensures { λ r. ⌜ r ≡ firstOut edition (now (s .entry)) at n ⌝ }
+// The first byte of the record of an edition at `at` that is out of its range, or its size where none is.
+// How many bytes are looked at is a number of the edition: passed on, it would keep the table from being folded into the loop.
+pub fn first_out(edition: Edition, s: &[u8], at: usize) -> usize
+    requires { ⌜ at + size edition ≤ length (now s) ⌝ }
+    ensures { λ r. ⌜ r ≡ firstOut edition (now (s .entry)) at (size edition) ⌝ }
 {
     match edition {
-        Edition::First => first_out_ctab(s, at, n),
-        Edition::Second => first_out_ctb2(s, at, n),
+        Edition::First => first_out_ctab(s, at, RECORD),
+        Edition::Second => first_out_ctb2(s, at, SECOND_RECORD),
+    }
+}
+
+// The same of the bytes that are held in memory, at the start of b.
+pub fn first_out_held(edition: Edition, b: &[u8]) -> usize
+    requires { ⌜ held edition ≤ length (now b) ⌝ }
+    ensures { λ r. ⌜ r ≡ firstOut edition (now (b .entry)) 0 (held edition) ⌝ }
+{
+    match edition {
+        Edition::First => first_out_ctab(b, 0, HELD),
+        Edition::Second => first_out_ctb2(b, 0, SECOND_RECORD),
     }
 }
 

@@ -3,11 +3,12 @@ ghost use mathlib.Core.Path.{_≡_};
 ghost use Prim.Native.Nat.{_≤_, _<_};
 ghost use lib.ListN.{length};
 ghost use Rattle.layout.specs.Bytes.{four};
-ghost use Rattle.layout.specs.Editions.{tagOf, size};
+ghost use Rattle.layout.specs.Editions.{tagOf, size, held, alike};
 ghost use Rattle.layout.specs.Group.{ctabPlace};
 use layout::edition::Edition;
 use layout::size::CTAB_STRIDE;
 use layout::size::CTB2_STRIDE;
+use layout::size::HELD;
 use layout::size::RECORD;
 use layout::size::SECOND_RECORD;
 use layout::tag::CTAB;
@@ -30,6 +31,32 @@ pub fn size_of(edition: Edition) -> usize
     match edition {
         Edition::First => RECORD,
         Edition::Second => SECOND_RECORD,
+    }
+}
+
+// Of them those held in memory.
+pub fn held_of(edition: Edition) -> usize
+    ensures { λ n. ⌜ n ≡ held edition ⌝ }
+{
+    match edition {
+        Edition::First => HELD,
+        Edition::Second => SECOND_RECORD,
+    }
+}
+
+// Whether two editions are the same.
+pub fn is_alike(a: Edition, b: Edition) -> bool
+    ensures { λ t. ⌜ t ≡ alike a b ⌝ }
+{
+    match a {
+        Edition::First => match b {
+            Edition::First => true,
+            Edition::Second => false,
+        },
+        Edition::Second => match b {
+            Edition::First => false,
+            Edition::Second => true,
+        },
     }
 }
 

@@ -66,6 +66,14 @@ pub salvage-bounded : (s : List ℕ) → All (Bounded (length s)) (salvage s)
 unfolding salvage
 salvage-bounded s = entries-bounded (length s) 0 (parts s) (omega (arith, ap length (parts-joined s))) (parts-kinds s)
 
+-- .. is of a kind that one group by itself can have: no rule across groups (12, 13, 21) plays a part
+pub salvage-kinds : (s : List ℕ) → All (λ (e : Entry). e .kind ≤ 11) (salvage s)
+salvage-kinds s = go (salvage s) (salvage-bounded s)
+  where
+    go : (es : List Entry) → All (Bounded (length s)) es → All (λ (e : Entry). e .kind ≤ 11) es
+    go [] h = tt
+    go (e ∷ es) h = (h .0 .known, go es (h .1))
+
 -- ---- "with room for 8,192 entries, enough for any body"
 
 pub room-for-any-body : (s : List ℕ) → length s ≤ 32768 → (length (salvage s) ≤ 8192) × (salvaged s (3 * 8192) ≡ granted (salvage s))

@@ -1,7 +1,7 @@
 -- What a plan for reading a group's records says: one law for each way out. The records of a group that was found are those that stand where it says.
 use Prim.Native.Nat.{ℕ, _+_, _*_, _≤_, _<_}
 use native.Mathlib.Omega.{arith}
-use mathlib.Core.Path.{_≡_, sym, ap, subst, _∙_}
+use mathlib.Core.Path.{_≡_, sym, ap, _∙_}
 use mathlib.Core.Bool.{cond}
 use mathlib.Core.List.{List, []}
 use lib.Dec.{ltb}
@@ -12,12 +12,11 @@ use Rattle.layout.specs.declared.answer.Counted.{Counted}
 use Rattle.layout.specs.declared.answer.Standing.{Standing}
 use Rattle.layout.specs.Lists.{rows}
 use Rattle.layout.specs.Answers.{refused, granted, numberOf, placeOf, valueOr, countedAll}
-use Rattle.layout.specs.declared.edition.Edition.{Edition}
-use Rattle.layout.specs.declared.edition.Edition.the-variants.{First}
 use Rattle.layout.specs.Group.{ctabPlace, recordAt}
 use Rattle.layout.specs.Body.{groupPlace, groupNo}
 use Rattle.layout.specs.Asked.{standingAt, standing, recordsRead}
 use Rattle.layout.proofs.Lists.{rows-length}
+use Rattle.layout.proofs.Ctabs.{place-before}
 use Rattle.layout.proofs.RecordBytes.{records-there}
 use Rattle.layout.proofs.Accepted.{body-accepted}
 use Rattle.layout.proofs.Sixteen.{group-cntts}
@@ -76,7 +75,7 @@ module _ (s : List ℕ) (g room : ℕ) where
     read-short h = asked ∙ rw (lt-ltb room (x .records) h)
 
     pub planned-all : x .records ≤ room
-        → ReadingPlanned s g room (record { number = 0; place = 0; count = x .records; ctabs = x .ctabs; cntts = x .cntts; seconds = x .seconds })
+        → ReadingPlanned s g room (record { number = 0; place = 0; count = x .records; edition = x .edition; ctabs = x .ctabs; cntts = x .cntts; seconds = x .seconds })
     unfolding numberOf placeOf valueOr
     planned-all h =
         let q : recordsRead s g room ≡ granted (standRecords s x) = asked ∙ rw (le-ltb room (x .records) h) in
@@ -84,9 +83,9 @@ module _ (s : List ℕ) (g room : ℕ) where
         record {
           number = rw q;
           place = rw q;
-          records = rw q (ap (λ (e : Edition). rows (recordAt e s (x .ctabs) (x .cntts) (x .seconds)) 0 (x .records)) (sym (w .edition)));
+          records = rw q;
           fits = h;
-          ctabs = subst (λ (e : Edition). ctabPlace e (x .ctabs) (x .records) ≤ length s) (sym (w .edition)) (w .ctabs);
+          ctabs = w .ctabs;
           cntts = w .cntts;
           few = found-few s g x there;
         }
@@ -105,5 +104,5 @@ told-answer s g room p r h e =
 
 -- the bounds that carrying it out needs
 module _ (s : List ℕ) (g room : ℕ) (p : Reading) (h : ReadingPlanned s g room p) (i : ℕ) (l : i < p .count) where
-  pub planned-within : (ctabPlace First (p .ctabs) (i + 1) ≤ length s) × ((p .cntts + 10 * p .seconds ≤ length s) × (p .seconds ≤ 16))
-  planned-within = (omega (arith, h .ctabs, l), (h .cntts, h .few))
+  pub planned-within : (ctabPlace (p .edition) (p .ctabs) (i + 1) ≤ length s) × ((p .cntts + 10 * p .seconds ≤ length s) × (p .seconds ≤ 16))
+  planned-within = (omega (arith, h .ctabs, place-before (p .edition) (p .ctabs) i (p .count) l), (h .cntts, h .few))

@@ -8,10 +8,12 @@ use lib.ListN.{getD, take, drop}
 use borrow.Author.Tests.{lt-ltb, le-ltb, eq-eqb, ne-eqb}
 use Rattle.layout.specs.declared.record.SecondTable.{SecondTable}
 use Rattle.layout.specs.declared.record.SecondTable.the-variants.{Absent, Value}
-use Rattle.layout.specs.declared.edition.Edition.the-variants.{First}
+use Rattle.layout.specs.declared.edition.Edition.{Edition}
+use Rattle.layout.specs.Editions.{held}
 use Rattle.layout.specs.Records.{recordOf}
 use Rattle.layout.specs.Scan.{first}
 use Rattle.layout.specs.Group.{ctabPlace, ctabChannel, cnttChannel, cnttOf, secondOf, positionOf, recordAt}
+use Rattle.layout.proofs.Editions.{held-some, held-size}
 use Rattle.layout.proofs.Scans.{first-end, first-here, first-next}
 use Rattle.read_table.specs.Reading.{secondBy, positionBy}
 
@@ -55,10 +57,18 @@ module _ (m j : ℕ) where
   unfolding positionBy
   position-none l = sym (rw (le-ltb j m l))
 
--- the 26 bytes where they are lent, and the Cntt found for the first of them
-pub record-here : (s : List ℕ) (p q m i at j : ℕ) (second : SecondTable) (position : ℕ) → at ≡ ctabPlace First p i + 8 → j ≡ cnttOf s q m (getD s at 0)
-    → second ≡ secondBy s q m j → position ≡ positionBy m j → recordOf (take (at + 26 - at) (drop at s)) second position ≡ recordAt First s p q m i
+-- the bytes held of a record stand within s where its Ctab does
+module _ (e : Edition) (p i k n : ℕ) (h : k ≡ ctabPlace e p i) (l : ctabPlace e p (i + 1) ≤ n) where
+  pub held-within : (m : ℕ) → m ≡ held e → k + 8 + m ≤ n
+  held-within m q = omega (arith, held-size e)
+
+  pub first-within : k + 8 < n
+  first-within = omega (arith, held-within (held e) refl, held-some e)
+
+-- the bytes held where they are lent, and the Cntt found for the first of them
+pub record-here : (e : Edition) (s : List ℕ) (p q m i k h j : ℕ) (second : SecondTable) (position : ℕ) → k ≡ ctabPlace e p i → h ≡ held e → j ≡ cnttOf s q m (getD s (k + 8) 0)
+    → second ≡ secondBy s q m j → position ≡ positionBy m j → recordOf e (take (k + 8 + h - (k + 8)) (drop (k + 8) s)) second position ≡ recordAt e s p q m i
 unfolding recordAt ctabChannel secondOf positionOf secondBy positionBy
-record-here s p q m i at j second position e h f g =
-    let z : at + 26 - at ≡ 26 = omega arith in
-    rw (z, f, g, h, e)
+record-here e s p q m i k h j second position here many found f g =
+    let z : k + 8 + h - (k + 8) ≡ h = omega arith in
+    rw (z, f, g, found, many, here)

@@ -16,9 +16,9 @@ use Rattle.layout.specs.declared.record.SecondTable.the-variants.{Absent, Value
 use Rattle.layout.specs.declared.answer.Counted.{Counted}
 use Rattle.read_table.specs.declared.Reading.{Reading}
 
--- "on refusal counts and lengths are 0, other result fields are 0": there is nothing to read
+-- "on refusal counts and lengths are 0, other result fields are 0", and the edition is the one named first: there is nothing to read
 abbrev pub noReading : ℕ → ℕ → Reading
-noReading number place = record { number = number; place = place; count = 0; ctabs = 0; cntts = 0; seconds = 0 }
+noReading number place = record { number = number; place = place; count = 0; edition = First; ctabs = 0; cntts = 0; seconds = 0 }
 
 -- the answer of a plan
 abbrev pub toldOf : Reading → Counted
@@ -26,7 +26,7 @@ toldOf r = record { number = r .number; place = r .place; count = r .count }
 
 -- the records that a plan names
 abbrev pub plannedRecord : List ℕ → Reading → ℕ → Record
-plannedRecord s r i = recordAt First s (r .ctabs) (r .cntts) (r .seconds) i
+plannedRecord s r i = recordAt (r .edition) s (r .ctabs) (r .cntts) (r .seconds) i
 
 -- the second table of Cntt number j of the m from q, or absent ..
 unfoldable pub secondBy : List ℕ → ℕ → ℕ → ℕ → SecondTable
@@ -42,6 +42,6 @@ pub record ReadingPlanned (s : List ℕ) (group room : ℕ) (r : Reading) : Type
   pub place : r .place ≡ placeOf (recordsRead s group room)
   pub records : valueOr [] (recordsRead s group room) ≡ rows (plannedRecord s r) 0 (r .count)
   pub fits : r .count ≤ room
-  pub ctabs : ctabPlace First (r .ctabs) (r .count) ≤ length s
+  pub ctabs : ctabPlace (r .edition) (r .ctabs) (r .count) ≤ length s
   pub cntts : r .cntts + 10 * r .seconds ≤ length s
   pub few : r .seconds ≤ 16

@@ -4,24 +4,26 @@ pub mod filled;
 ghost use mathlib.Core.Path.{_≡_};
 ghost use Prim.Native.Nat.{_+_, _*_, _≤_};
 ghost use lib.ListN.{length};
-ghost use Rattle.layout.specs.declared.edition.Edition.the-variants.{First};
 ghost use Rattle.layout.specs.Group.{ctabPlace, cnttOf, recordAt};
 ghost use Rattle.read_table.specs.Reading.{noReading, toldOf, ReadingPlanned, secondBy, positionBy};
 use layout::answer::Counted;
+use layout::edition::Edition;
 use layout::record::Record;
 use layout::record::SecondTable;
 use layout::refusal::BAD_NUMBER;
 use layout::refusal::NO_ROOM;
 use layout::size::CNTT_STRIDE;
-use layout::size::CTAB_STRIDE;
-use layout::size::HELD;
 use read_find::Search;
+use read_record::edition::ctab_place;
+use read_record::edition::held_of;
+use read_record::made::record_of;
 
-// What reading a group's records comes to: the refusal, or how many there are, and where the group's Ctabs and Cntts begin in the body.
+// What reading a group's records comes to: the refusal, or how many there are, their edition, and where the group's Ctabs and Cntts begin in the body.
 pub struct Reading {
     pub number: u8,
     pub place: usize,
     pub count: usize,
+    pub edition: Edition,
     pub ctabs: usize,
     pub cntts: usize,
     pub seconds: usize,
@@ -35,6 +37,7 @@ fn no_records(number: u8, place: usize) -> Reading
         number: number,
         place: place,
         count: 0,
+        edition: Edition::First,
         ctabs: 0,
         cntts: 0,
         seconds: 0,
@@ -52,10 +55,12 @@ pub fn plan_records(s: &[u8], group: usize, room: usize) -> Reading
             if room < x.records {
                 return no_records(NO_ROOM, 0);
             }
+            let edition = x.edition;
             Reading {
                 number: 0,
                 place: 0,
                 count: x.records,
+                edition: edition,
                 ctabs: x.ctabs,
                 cntts: x.cntts,
                 seconds: x.seconds,
@@ -102,16 +107,17 @@ fn position_at(seconds: usize, j: usize) -> u8
     0
 }
 
-// Record number i of a plan: bytes 0-25 of its Ctab where they stand, and its Cntt with its position.
+// Record number i of a plan: the bytes held of its Ctab where they stand, and its Cntt with its position.
 pub fn record_at(s: &[u8], plan: Reading, i: usize) -> Record
-    requires { ⌜ (ctabPlace First (plan .ctabs) (i + 1) ≤ length (now s)) × ((plan .cntts + 10 * plan .seconds ≤ length (now s)) × (plan .seconds ≤ 16)) ⌝ }
-    ensures { λ r. ⌜ r ≡ recordAt First (now (s .entry)) (plan .ctabs) (plan .cntts) (plan .seconds) i ⌝ }
+    requires { ⌜ (ctabPlace (plan .edition) (plan .ctabs) (i + 1) ≤ length (now s)) × ((plan .cntts + 10 * plan .seconds ≤ length (now s)) × (plan .seconds ≤ 16)) ⌝ }
+    ensures { λ r. ⌜ r ≡ recordAt (plan .edition) (now (s .entry)) (plan .ctabs) (plan .cntts) (plan .seconds) i ⌝ }
 {
-    let at = plan.ctabs + CTAB_STRIDE * i + 8;
+    let edition = plan.edition;
+    let at = ctab_place(edition, s, plan.ctabs, i) + 8;
     let j = cntt_of(s, plan.cntts, plan.seconds, s[at]);
     let second = second_at(s, plan.cntts, plan.seconds, j);
     let position = position_at(plan.seconds, j);
-    read_record::held::record_of(&s[at..at + HELD], second, position)
+    record_of(edition, &s[at..at + held_of(edition)], second, position)
 }
 
 // The answer of a plan.

@@ -2,31 +2,50 @@
 use casm::bytes::bytes_of;
 use casm::bytes::record_of;
 use check::same;
+use layout::edition::Edition;
+use layout::record::Form;
 use layout::record::Record;
 use layout::record::SecondTable;
+use layout::record::Single;
+use layout::size::HELD;
+use layout::size::SECOND_RECORD;
 
 // The record that lent tables hold before a call: every byte EEH, no Cntt, and the position EEH, too.
 fn blank() -> Record {
-    record_of([0xEE; 26], SecondTable::Absent, 0xEE)
+    record_of(
+        Edition::First,
+        [0xEE; SECOND_RECORD],
+        SecondTable::Absent,
+        0xEE,
+    )
 }
 
 pub fn blank_table() -> [Record; 32] {
     [blank(); 32]
 }
 
-// Whether a record still is blank.
-fn is_blank(r: Record) -> bool {
-    let second = r.second;
-    let bytes = bytes_of(r);
-    if !same(&bytes, &[0xEEu8; 26]) {
-        return false;
-    }
-    if r.position != 0xEE {
+// Whether what the first edition has of a Cntt still is blank.
+fn is_bare(x: Single) -> bool {
+    let second = x.second;
+    if x.position != 0xEE {
         return false;
     }
     match second {
         SecondTable::Absent => true,
         SecondTable::Value(_) => false,
+    }
+}
+
+// Whether a record still is blank.
+fn is_blank(r: Record) -> bool {
+    let bytes = bytes_of(r);
+    if !same(&bytes[0..HELD], &[0xEEu8; HELD]) {
+        return false;
+    }
+    let form = r.form;
+    match form {
+        Form::One(x) => is_bare(x),
+        Form::Three(_) => false,
     }
 }
 

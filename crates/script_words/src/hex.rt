@@ -1,4 +1,5 @@
-// Pairs of hex digits in lower case, and REC: 52 hex digits for bytes 0-25 of a record, `:`, the Cntt value as two hex digits or `-` for absent, `:`, and the Cntt's position in decimal.
+// Pairs of hex digits in lower case, and REC: 52 hex digits for bytes 0-25 of a record, `:`, the Cntt value as two hex digits or `-` for absent, `:`, and the Cntt's position in decimal;
+// or 94 hex digits alone for the 47 bytes of a record of the second edition.
 ghost use Prim.Native.Nat.{_+_, _*_, _≤_};
 ghost use lib.ListN.{length};
 use crate::word::byte;
@@ -63,8 +64,16 @@ fn position_at(word: &[u8]) -> usize
     0
 }
 
+// Whether a REC is of the second edition: by its length, at which the first has a `:` among its digits.
+pub fn is_second(word: &[u8]) -> bool {
+    word.len() == 94 && is_hex(word)
+}
+
 // Whether a word is REC.
 pub fn is_rec(word: &[u8]) -> bool {
+    if is_second(word) {
+        return true;
+    }
     let at = position_at(word);
     if at < 52 {
         return false;

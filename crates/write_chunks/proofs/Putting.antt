@@ -7,17 +7,23 @@ use native.Mathlib.Numerals.{add-one}
 use lib.ListN.{length, getD, take, drop, length-append}
 use lib.Seq.{take-suc, length-take-le}
 use borrow.Rule.Slice.PartMut.{midOf, putMid}
+use Rattle.layout.specs.declared.edition.Edition.{Edition}
+use Rattle.layout.specs.declared.edition.Edition.the-variants.{First, Second}
 use Rattle.layout.specs.declared.record.Record.{Record}
 use Rattle.layout.specs.declared.record.SecondTable.the-variants.{Value}
 use Rattle.layout.specs.Bytes.{four, chunk}
 use Rattle.layout.specs.Edit.{replaced}
+use Rattle.layout.specs.Editions.{size}
+use Rattle.layout.specs.Group.{ctabPlace}
 use Rattle.layout.specs.Records.{blank}
 use Rattle.layout.specs.Write.{ctabBytes, cnttBytes}
+use Rattle.layout.proofs.Ctabs.{place-before}
 use Rattle.layout.proofs.Lists.{flatMap-last}
 use Rattle.layout.proofs.Replaced.{replaced-none, replaced-length, replaced-twice}
+use Rattle.write_plan.specs.Checking.{OneEdition}
 use Rattle.write_plan.specs.Chunks.{cnttDown, cnttsDown}
 use Rattle.write_plan.proofs.Down.{cntts-next, cntts-length}
-use Rattle.write_plan.proofs.Planning.{ctab-length, ctabs-length}
+use Rattle.write_plan.proofs.Planning.{ctab-length, ctabs-length, editions-take}
 use Rattle.write_chunks.proofs.Stored.{cntt-placed}
 
 module _ (blocks : ℕ → List ℕ) (old : List ℕ) (at n : ℕ) where
@@ -46,6 +52,11 @@ module _ (blocks : ℕ → List ℕ) (old : List ℕ) (at n : ℕ) where
 
 -- ---- the Ctabs of records
 
+-- no earlier one stands behind
+pub place-within : (e : Edition) (p i n : ℕ) → i ≤ n → ctabPlace e p i ≤ ctabPlace e p n
+place-within First p i n h = omega arith
+place-within Second p i n h = omega arith
+
 module _ (rs : List Record) where
   abbrev pub ctabs : ℕ → List ℕ
   ctabs i = flatMap ctabBytes (take i rs)
@@ -57,23 +68,25 @@ module _ (rs : List Record) where
   ctabs-more : (i : ℕ) → i < length rs → ctabs (i + 1) ≡ ctabs i ++ ctabBytes (getD rs i blank)
   ctabs-more i h = rw (add-one i) (ap (flatMap ctabBytes) (take-suc rs i blank h) ∙ flatMap-last ctabBytes (take i rs) (getD rs i blank))
 
-  ctabs-long : (i : ℕ) → i ≤ length rs → length (ctabs i) ≡ 35 * i
-  ctabs-long i h = omega (arith, ctabs-length (take i rs), length-take-le i rs h)
-
-  module _ (old : List ℕ) (at n : ℕ) where
+  module _ (e : Edition) (old : List ℕ) (at n : ℕ) where
     pub ctabs-start : Putting ctabs old at n old 0
     ctabs-start = putting-start ctabs old at n ctabs-none
 
-    -- the first i of them put
-    pub ctabs-put : n ≤ length rs → at + 35 * n ≤ length old → (i : ℕ) → i ≤ n → Putting ctabs old at n (replaced old at (ctabs i)) i
-    ctabs-put within room i h = record { some = h; long = replaced-length old at (ctabs i) (omega (arith, ctabs-long i (omega arith))); so = refl }
+    module _ (within : n ≤ length rs) (same : OneEdition e rs n) (room : ctabPlace e at n ≤ length old) where
+      ctabs-long : (i : ℕ) → i ≤ n → length (ctabs i) ≡ (8 + size e) * i
+      ctabs-long i h =
+          rw (length-take-le i rs (omega arith)) at (ctabs-length e (take i rs) (editions-take e rs i (omega arith) (λ j l. same j (omega arith))))
 
-    -- one Ctab more, at its place
-    pub ctabs-next : n ≤ length rs → at + 35 * n ≤ length old → (now : List ℕ) (i : ℕ) → Putting ctabs old at n now i → i < n
-        → (after : List ℕ) → after ≡ replaced now (at + 35 * i) (ctabBytes (getD rs i blank)) → Putting ctabs old at n after (i + 1)
-    ctabs-next within room now i p h after s =
-        let l = ctabs-long i (omega arith) in
-        putting-next ctabs old at n now i p h (at + 35 * i) (ctabBytes (getD rs i blank)) after (ctabs-more i (omega arith)) (omega (arith, l)) (omega (arith, ctab-length (getD rs i blank))) s
+      -- the first i of them put
+      pub ctabs-put : (i : ℕ) → i ≤ n → Putting ctabs old at n (replaced old at (ctabs i)) i
+      ctabs-put i h = record { some = h; long = replaced-length old at (ctabs i) (omega (arith, ctabs-long i h, place-within e at i n h, room)); so = refl }
+
+      -- one Ctab more, at its place
+      pub ctabs-next : (now : List ℕ) (i : ℕ) → Putting ctabs old at n now i → i < n
+          → (after : List ℕ) → after ≡ replaced now (ctabPlace e at i) (ctabBytes (getD rs i blank)) → Putting ctabs old at n after (i + 1)
+      ctabs-next now i p h after s =
+          putting-next ctabs old at n now i p h (ctabPlace e at i) (ctabBytes (getD rs i blank)) after (ctabs-more i (omega arith)) (omega (arith, ctabs-long i (omega arith)))
+          (omega (arith, ctab-length (getD rs i blank), ap size (same i h), place-before e at i n h, room)) s
 
 -- ---- the Cntts that are laid down
 

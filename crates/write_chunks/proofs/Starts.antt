@@ -1,5 +1,5 @@
 -- What a plan writes without the records: nothing on refusal, else the group's header and its Sdec, and its Cntts.
-use Prim.Native.Nat.{ℕ, _+_, _*_, _-_}
+use Prim.Native.Nat.{ℕ, _+_, _-_}
 use mathlib.Core.Path.{_≡_, refl, _∙_, ap, ap₂}
 use mathlib.Core.List.{List, _++_}
 use native.Mathlib.Omega.{arith}
@@ -7,6 +7,7 @@ use lib.ListN.{length, drop}
 use borrow.Author.Tests.{eq-eqb, ne-eqb}
 use Rattle.layout.specs.Bytes.{CSEG, Sdec, four, chunk}
 use Rattle.layout.specs.Edit.{replaced}
+use Rattle.layout.specs.Group.{ctabPlace}
 use Rattle.write_plan.specs.declared.Plan.{Plan}
 use Rattle.write_plan.specs.Checking.{startPlace, startBytes}
 use Rattle.write_plan.specs.Chunks.{cnttsDown, framed}
@@ -24,7 +25,8 @@ module _ (text out : List ℕ) (p : Plan) where
       rw (eq-eqb (p .number) 0 z) (refl, e ∙ ap (λ (k : ℕ). CSEG ++ (four (p .length - 8) ++ (chunk Sdec text ++ drop k out))) q)
 
   -- .. and the Cntts behind the room of the Ctabs
-  pub frame-put : (one two : List ℕ) (m : ℕ) → (m ≡ startPlace text p) × (one ≡ replaced out 0 (startBytes text p)) → two ≡ replaced one (m + 35 * p .records) (cnttsDown (p .cntts) (p .seconds))
-      → (m ≡ startPlace text p) × (two ≡ framed text p out)
+  pub frame-put : (one two : List ℕ) (m to : ℕ) → (m ≡ startPlace text p) × (one ≡ replaced out 0 (startBytes text p)) → to ≡ ctabPlace (p .edition) m (p .records)
+      → two ≡ replaced one to (cnttsDown (p .cntts) (p .seconds)) → (m ≡ startPlace text p) × (two ≡ framed text p out)
   unfolding framed
-  frame-put one two m a e = (a .0, e ∙ ap₂ (λ (l : List ℕ) (k : ℕ). replaced l (k + 35 * p .records) (cnttsDown (p .cntts) (p .seconds))) (a .1) (a .0))
+  frame-put one two m to a h e =
+      (a .0, e ∙ ap₂ (λ (l : List ℕ) (k : ℕ). replaced l k (cnttsDown (p .cntts) (p .seconds))) (a .1) (h ∙ ap (λ (k : ℕ). ctabPlace (p .edition) k (p .records)) (a .0)))

@@ -12,10 +12,12 @@ use Rattle.layout.specs.Bytes.{four, chunk, CSEG, Sdec}
 use Rattle.layout.specs.declared.edition.Edition.{Edition}
 use Rattle.layout.specs.declared.edition.Edition.the-variants.{First, Second}
 use Rattle.layout.specs.Editions.{tagOf, size, held, closing}
-use Rattle.layout.specs.Records.{bytesOf, editionOf, fileBytes}
-use Rattle.layout.proofs.Editions.{size-least, closed-length}
+use Rattle.layout.specs.Records.{bytesOf, editionOf, fileBytes, laidOut}
+use Rattle.layout.proofs.Editions.{size-least, held-spare, closed-length}
+use Rattle.layout.proofs.Records.{bytes-length, laid-front, laid-length}
 use Rattle.layout.proofs.Groups.{sdec-tag, cseg-tag}
 use Rattle.layout.specs.Edit.{replaced}
+use Rattle.layout.specs.Group.{ctabPlace}
 use Rattle.layout.specs.Write.{ctabBytes, cnttBytes}
 use Rattle.write_chunks.proofs.Tails.{tail-written, tail-replaced}
 
@@ -33,6 +35,20 @@ module _ (e : Edition) (b old xs : List ℕ) (z : length b ≡ held e) (q : xs �
 
   pub held-second : e ≡ Second → xs ≡ b ++ (closing e ++ drop (size e) old)
   held-second f = rw f (rw f at held-over)
+
+-- the bytes held, of a record laid out
+module _ (r : Record) (e : Edition) (b : List ℕ) (n : ℕ) (laid : b ≡ laidOut r) (is : e ≡ editionOf r) (many : n ≡ held e) where
+  pub held-within : n ≤ length b
+  held-within = omega (arith, ap length laid, laid-length r, held-spare e, many)
+
+  pub held-are : take n b ≡ bytesOf r
+  held-are = ap₂ take (many ∙ ap held is) laid ∙ laid-front r
+
+  pub held-length : length (take n b) ≡ held e
+  held-length = ap length held-are ∙ (bytes-length r ∙ ap held (sym is))
+
+  pub held-cut : n ≡ length (take n b)
+  held-cut = many ∙ sym held-length
 
 -- .. are the record's bytes in the file
 pub record-stored : (r : Record) (b d xs : List ℕ) → b ≡ bytesOf r → xs ≡ b ++ (closing (editionOf r) ++ d) → xs ≡ fileBytes r ++ d
@@ -107,3 +123,9 @@ module _ (old : List ℕ) (to : ℕ) (l : to ≤ length old) where
 pub ctab-of : (r : Record) (b : List ℕ) → b ≡ bytesOf r → chunk (tagOf (editionOf r)) (b ++ closing (editionOf r)) ≡ ctabBytes r
 unfolding ctabBytes fileBytes
 ctab-of r b e = rw e
+
+pub ctab-put : (r : Record) (e : Edition) (b out last : List ℕ) (at i : ℕ) → e ≡ editionOf r → b ≡ bytesOf r → last ≡ replaced out (ctabPlace e at i) (chunk (tagOf e) (b ++ closing e))
+    → last ≡ replaced out (ctabPlace (editionOf r) at i) (ctabBytes r)
+ctab-put r e b out last at i is h q =
+    let z = rw is at q in
+    z ∙ ap (replaced out (ctabPlace (editionOf r) at i)) (ctab-of r b h)

@@ -1,57 +1,90 @@
 -- What the steps of the writer leave in the buffer is what the definition writes there.
-use Prim.Native.Nat.{ℕ, _+_, _*_, _-_, _≤_}
+use Prim.Native.Nat.{ℕ, _+_, _*_, _-_, _≤_, _<_}
 use mathlib.Core.Path.{_≡_, refl, sym, _∙_, ap, ap₂}
 use mathlib.Core.Logic.{_⊎_, inl, inr}
 use mathlib.Core.List.{List, _++_, flatMap, append-assoc}
 use native.Mathlib.Omega.{arith}
-use lib.ListN.{length, take, drop, length-append}
+use native.Mathlib.Decide.{decLt}
+use lib.ListN.{length, getD, take, drop, length-append}
 use lib.Seq.{take-take, take-append-le, drop-at, length-take-le}
 use borrow.Author.Tests.{ne-eqb}
+use Rattle.layout.specs.declared.edition.Edition.{Edition}
 use Rattle.layout.specs.declared.record.Record.{Record}
 use Rattle.layout.specs.Bytes.{CSEG, Sdec, four, chunk}
 use Rattle.layout.specs.Answers.{numberOf, placeOf, valueOr, lentAfter, measured}
 use Rattle.layout.specs.Edit.{replaced}
+use Rattle.layout.specs.Editions.{size}
+use Rattle.layout.specs.Group.{ctabPlace}
+use Rattle.layout.specs.Records.{blank, editionOf}
 use Rattle.layout.specs.Lists.{rows}
-use Rattle.layout.specs.Write.{ctabBytes, cnttsBytes, payloadBytes, groupBytes, groupFrom}
+use Rattle.layout.specs.Write.{ctabBytes, cnttsBytes, payloadBytes, groupBytes, firstEdition, groupFrom}
 use Rattle.layout.specs.Promises.{GroupWritten}
 use Rattle.layout.proofs.Replaced.{replaced-start, replaced-length, replaced-twice}
 use Rattle.write_plan.specs.declared.Plan.{Plan}
 use Rattle.write_plan.specs.Chunks.{cnttsDown, framed}
-use Rattle.write_plan.specs.Checking.{noPlan, planOf, measuredBy, startPlace, startBytes}
+use Rattle.write_plan.specs.Checking.{OneEdition, noPlan, planOf, measuredBy, startPlace, startBytes}
 use Rattle.write_plan.proofs.Down.{cntts-length}
-use Rattle.write_plan.proofs.Planning.{ctabs-length, group-length, NotPlanned, Planned, plan-says}
+use Rattle.write_chunks.proofs.Putting.{place-within}
+use Rattle.write_plan.proofs.Planning.{ctabs-length, group-length, editions-take, NotPlanned, Planned, plan-says}
 
 -- what is so of every plan: each step has the room that it asks for
 pub record PlanFits (text : List ℕ) (rs : List Record) (room : ℕ) (p : Plan) : Type 0 where
   pub start : p .number ≡ 0 → (16 + length text ≤ p .length) × (p .length ≤ room)
   pub within : p .records ≤ length rs
-  pub chunks : startPlace text p + 35 * p .records + 10 * p .seconds ≤ room
+  pub editions : OneEdition (p .edition) rs (p .records)
+  pub chunks : ctabPlace (p .edition) (startPlace text p) (p .records) + 10 * p .seconds ≤ room
   pub few : p .seconds ≤ 16
 
 module _ (text : List ℕ) (rs : List Record) (room number place : ℕ) (z : number ≡ 0 → ⊥) where
   none-fits : PlanFits text rs room (noPlan number place)
   unfolding noPlan startPlace
-  none-fits = record { start = λ e. absurd (z e); within = omega arith; chunks = rw (ne-eqb number 0 z) (omega arith); few = omega arith }
+  none-fits = record { start = λ e. absurd (z e); within = omega arith; editions = λ i l. absurd (omega arith); chunks = rw (ne-eqb number 0 z) (omega arith); few = omega arith }
 
-abbrev accepting : List ℕ → List Record → ℕ → ℕ → List ℕ → Plan
-accepting text rs count seconds cntts = record { number = 0; place = 0; records = count; length = length (groupBytes (groupFrom text rs count)); seconds = seconds; cntts = cntts }
+abbrev accepting : List ℕ → List Record → ℕ → Edition → ℕ → List ℕ → Plan
+accepting text rs count edition seconds cntts =
+    record { number = 0; place = 0; records = count; edition = edition; length = length (groupBytes (groupFrom text rs count)); seconds = seconds; cntts = cntts }
 
-module _ (text : List ℕ) (rs : List Record) (count : ℕ) (h : count ≤ length rs) (seconds : ℕ) (cntts : List ℕ) (down : cnttsDown cntts seconds ≡ cnttsBytes (take count rs)) where
-  whole-length : length (groupBytes (groupFrom text rs count)) ≡ 16 + length text + 35 * count + 10 * seconds
-  whole-length = omega (arith, group-length text (take count rs), length-take-le count rs h, ap length down, cntts-length cntts seconds)
+module _ (text : List ℕ) (rs : List Record) (count : ℕ) (h : count ≤ length rs) (e : Edition) (same : OneEdition e rs count) (seconds : ℕ) (cntts : List ℕ) (down : cnttsDown cntts seconds ≡ cnttsBytes (take count rs)) where
+  ctabs-long : length (flatMap ctabBytes (take count rs)) ≡ (8 + size e) * count
+  ctabs-long = rw (length-take-le count rs h) at (ctabs-length e (take count rs) (editions-take e rs count h same))
 
-  whole-fits : (room : ℕ) → seconds ≤ 16 → length (groupBytes (groupFrom text rs count)) ≤ room → PlanFits text rs room (accepting text rs count seconds cntts)
+  whole-length : length (groupBytes (groupFrom text rs count)) ≡ ctabPlace e (16 + length text) count + 10 * seconds
+  whole-length =
+      let l = rw (length-take-le count rs h) at (group-length text e (take count rs) (editions-take e rs count h same)) in
+      omega (arith, l, ap length down, cntts-length cntts seconds)
+
+  whole-fits : (room : ℕ) → seconds ≤ 16 → length (groupBytes (groupFrom text rs count)) ≤ room → PlanFits text rs room (accepting text rs count e seconds cntts)
   unfolding startPlace
   whole-fits room few f =
       let l = whole-length in
-      record { start = λ e. (omega (arith, l), f); within = h; chunks = omega (arith, l, f); few = few }
+      record { start = λ z. (omega (arith, l), f); within = h; editions = same; chunks = omega (arith, l, f); few = few }
 
 pub plan-fits : (text : List ℕ) (rs : List Record) (count room : ℕ) → PlanFits text rs room (planOf text rs count room)
 plan-fits text rs count room = go (plan-says text rs count room)
   where
     go : NotPlanned text rs count room (planOf text rs count room) ⊎ Planned text rs count room (planOf text rs count room) → PlanFits text rs room (planOf text rs count room)
     go (inl a) = rw (a .plan) (none-fits text rs room (a .number) (a .place) (a .refusal))
-    go (inr b) = rw (b .plan) (whole-fits text rs count (b .within) (b .seconds) (b .cntts) (b .down) room (b .few) (b .fits))
+    go (inr b) = rw (b .plan) (whole-fits text rs count (b .within) (b .edition) (b .editions) (b .seconds) (b .cntts) (b .down) room (b .few) (b .fits))
+
+-- its records are of the edition of the first, and have the room that they ask for: so for the first m of them; where there are none, their edition plays no part
+place-none : (e f : Edition) (at n : ℕ) → n ≡ 0 → ctabPlace e at n ≡ ctabPlace f at n
+place-none e f at n h = rw h (omega arith)
+
+pub fits-first : (text : List ℕ) (rs : List Record) (room : ℕ) (p : Plan) → PlanFits text rs room p → (m : ℕ) → m ≤ p .records
+    → OneEdition (firstEdition rs) rs m × (ctabPlace (firstEdition rs) (startPlace text p) m ≤ room)
+unfolding firstEdition
+fits-first text rs room p f m h = go (decLt 0 m)
+  where
+    within : ctabPlace (p .edition) (startPlace text p) m ≤ room
+    within = omega (arith, place-within (p .edition) (startPlace text p) m (p .records) h, f .chunks)
+
+    go : Dec (0 < m) → OneEdition (editionOf (getD rs 0 blank)) rs m × (ctabPlace (editionOf (getD rs 0 blank)) (startPlace text p) m ≤ room)
+    go (yes a) =
+        let z : editionOf (getD rs 0 blank) ≡ p .edition = sym (f .editions 0 (omega arith)) in
+        (λ i l. z ∙ f .editions i (omega arith), rw z within)
+    go (no a) =
+        let z = place-none (editionOf (getD rs 0 blank)) (p .edition) (startPlace text p) m (omega arith) in
+        (λ i l. absurd (omega arith), omega (arith, z, within))
 
 -- ---- the buffer
 
@@ -83,7 +116,7 @@ module _ (text : List ℕ) (rs : List Record) (out : List ℕ) where
   unfolding noPlan framed startPlace startBytes replaced cnttsDown rows flatMap
   none-written number place z = rw (ne-eqb number 0 z)
 
-  module _ (count : ℕ) (h : count ≤ length rs) (seconds : ℕ) (cntts : List ℕ) (down : cnttsDown cntts seconds ≡ cnttsBytes (take count rs)) (room : length (groupBytes (groupFrom text rs count)) ≤ length out) where
+  module _ (count : ℕ) (h : count ≤ length rs) (e : Edition) (same : OneEdition e rs count) (seconds : ℕ) (cntts : List ℕ) (down : cnttsDown cntts seconds ≡ cnttsBytes (take count rs)) (room : length (groupBytes (groupFrom text rs count)) ≤ length out) where
     abbrev front : List ℕ
     front = CSEG ++ (four (length (groupBytes (groupFrom text rs count)) - 8) ++ chunk Sdec text)
 
@@ -108,11 +141,11 @@ module _ (text : List ℕ) (rs : List Record) (out : List ℕ) where
         let behind = ctabs ++ cnttsBytes (take count rs) in
         rw (ahead, down) (append-assoc CSEG (sized ++ chunk Sdec text) behind ∙ (ap (λ (t : List ℕ). CSEG ++ t) (append-assoc sized (chunk Sdec text) behind) ∙ inside-is))
 
-    whole-written : buffer text rs out (accepting text rs count seconds cntts) ≡ groupBytes (groupFrom text rs count) ++ drop (length (groupBytes (groupFrom text rs count))) out
+    whole-written : buffer text rs out (accepting text rs count e seconds cntts) ≡ groupBytes (groupFrom text rs count) ++ drop (length (groupBytes (groupFrom text rs count))) out
     unfolding framed startPlace startBytes
     whole-written =
-        let l : length ctabs ≡ 35 * count = omega (arith, ctabs-length (take count rs), length-take-le count rs h) in
-        rw (← l) (steps front ctabs (cnttsDown cntts seconds) out (16 + length text) front-length (omega (arith, whole-length text rs count h seconds cntts down)))
+        let l : length ctabs ≡ (8 + size e) * count = ctabs-long text rs count h e same seconds cntts down in
+        rw (← l) (steps front ctabs (cnttsDown cntts seconds) out (16 + length text) front-length (omega (arith, l, whole-length text rs count h e same seconds cntts down, room)))
         ∙ ap (λ (b : List ℕ). b ++ drop (length b) out) group-is
 
 -- ---- the promise
@@ -123,4 +156,4 @@ plan-written text rs count out p e = go (plan-says text rs count (length out))
   where
     go : NotPlanned text rs count (length out) (planOf text rs count (length out)) ⊎ Planned text rs count (length out) (planOf text rs count (length out)) → GroupWritten text rs count out (measuredBy p) (buffer text rs out p)
     go (inl a) = rw (e, a .plan) (record { answer = rw (a .answer); buffer = none-written text rs out (a .number) (a .place) (a .refusal) ∙ rw (a .answer) })
-    go (inr b) = rw (e, b .plan) (record { answer = rw (b .answer); buffer = whole-written text rs out count (b .within) (b .seconds) (b .cntts) (b .down) (b .fits) ∙ rw (b .answer) })
+    go (inr b) = rw (e, b .plan) (record { answer = rw (b .answer); buffer = whole-written text rs out count (b .within) (b .edition) (b .editions) (b .seconds) (b .cntts) (b .down) (b .fits) ∙ rw (b .answer) })

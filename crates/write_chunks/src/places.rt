@@ -1,4 +1,4 @@
-// Chunks at their places: one Ctab stands 35 bytes behind the other, one Cntt 10.
+// Chunks at their places: one Ctab stands behind the other by the size of its edition, one Cntt 10 bytes.
 ghost use mathlib.Core.Path.{_≡_};
 ghost use mathlib.Core.List.{_++_};
 ghost use Prim.Native.Nat.{_+_, _*_, _≤_};
@@ -16,8 +16,9 @@ use layout::edition::Edition;
 use layout::record::Record;
 use layout::size::CNTT_BYTES;
 use layout::size::CNTT_STRIDE;
+use read_record::bytes::bytes_of;
 use read_record::edition::ctab_place;
-use read_record::held::bytes_of;
+use read_record::edition::held_of;
 use read_record::held::edition_of;
 
 // Ctab number i of those from `at` on, from the bytes of its record that are held.
@@ -34,8 +35,10 @@ pub fn put_record(out: &mut [u8], at: usize, i: usize, r: Record)
     requires { ⌜ ctabPlace (editionOf r) at i + (8 + size (editionOf r)) ≤ length (now out) ⌝ }
     ensures { λ _. ⌜ now (out .exit) ≡ replaced (now (out .entry)) (ctabPlace (editionOf r) at i) (ctabBytes r) ⌝ }
 {
+    let edition = edition_of(r);
+    let n = held_of(edition);
     let b = bytes_of(r);
-    put_ctab_at(edition_of(r), out, at, i, &b);
+    put_ctab_at(edition, out, at, i, &b[..n]);
 }
 
 // The first n Cntts of those laid down, from `at` on.

@@ -1,19 +1,23 @@
-// Editing (document 01, "Writing and editing"): the record of a group and source channel replaced inside a lent body.
+// Editing (document 01, "Writing and editing"; document 02, §4): the record of a group and source channel replaced inside a lent body.
 ghost use mathlib.Core.Path.{_≡_};
 ghost use Prim.Native.Nat.{_+_, _≤_};
 ghost use lib.ListN.{length};
+ghost use Rattle.layout.specs.Editions.{size};
 ghost use Rattle.layout.specs.Promises.{RecordEdited};
 ghost use Rattle.write_edit.specs.EditAt.{EditedAt, told};
 use layout::answer::Answered;
+use layout::edition::Edition;
 use layout::record::Record;
 use layout::record::SourceChannel;
 use layout::refusal::BAD_NUMBER;
+use layout::refusal::OTHER_EDITION;
 use layout::refusal::OUT_OF_RANGE;
-use layout::size::HELD;
 use read_find::row::Sought;
 use read_find::row::find_record;
-use read_ranges::first_out;
-use read_record::held::bytes_of;
+use read_ranges::first_out_held;
+use read_record::bytes::bytes_of;
+use read_record::edition::held_of;
+use read_record::edition::is_alike;
 use read_record::held::edition_of;
 use write_chunks::put::put_held;
 
@@ -26,31 +30,41 @@ fn answer(number: u8, place: usize) -> Answered
     }
 }
 
-// The record whose byte 0 stands at `at`: its source channel stays, and bytes 0-25 of the new one are in their ranges. Its Cntt is not looked at.
-fn edit_at(s: &mut [u8], at: usize, channel: SourceChannel, new: Record) -> Answered
-    requires { ⌜ at + 27 ≤ length (now s) ⌝ }
-    ensures { λ r. ⌜ EditedAt (now (s .entry)) at (channel .0) new r (now (s .exit)) ⌝ }
+// The record of an edition whose byte 0 stands at `at`: its source channel and its edition stay, and the bytes of the new one are in their ranges. Its Cntt is not looked at.
+fn edit_at(
+    s: &mut [u8],
+    edition: Edition,
+    at: usize,
+    channel: SourceChannel,
+    new: Record,
+) -> Answered
+    requires { ⌜ at + size edition ≤ length (now s) ⌝ }
+    ensures { λ r. ⌜ EditedAt (now (s .entry)) edition at (channel .0) new r (now (s .exit)) ⌝ }
 {
     let source = new.source;
     if source.0 != channel.0 {
         return answer(BAD_NUMBER, 0);
     }
+    let own = edition_of(new);
+    if !is_alike(edition, own) {
+        return answer(OTHER_EDITION, 0);
+    }
+    let n = held_of(edition);
     let b = bytes_of(new);
-    let edition = edition_of(new);
-    let k = first_out(edition, &b, 0, HELD);
-    if k < HELD {
+    let k = first_out_held(edition, &b);
+    if k < n {
         return answer(OUT_OF_RANGE, k);
     }
-    put_held(edition, &mut s[at..], &b);
+    put_held(edition, &mut s[at..], &b[..n]);
     answer(0, 0)
 }
 
-// Replaces the record of a group and source channel; only that Ctab's 27 bytes change, and nothing on refusal.
+// Replaces the record of a group and source channel; only that Ctab's bytes change, and nothing on refusal.
 pub fn edit_record(s: &mut [u8], group: usize, channel: SourceChannel, new: Record) -> Answered
     ensures { λ r. ⌜ RecordEdited (now (s .entry)) group (channel .0) new r (now (s .exit)) ⌝ }
 {
     match find_record(s, group, channel) {
         Sought::Refused(number, place) => answer(number, place),
-        Sought::At(_, at) => edit_at(s, at, channel, new),
+        Sought::At(edition, _, at) => edit_at(s, edition, at, channel, new),
     }
 }

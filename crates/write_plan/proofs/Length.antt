@@ -8,48 +8,60 @@ use lib.Bits.{bitOr}
 use lib.Dec.{ltb, eqb}
 use lib.ListN.{length, getD}
 use borrow.Author.Tests.{ltb-false}
+use Rattle.layout.specs.declared.edition.Edition.{Edition}
+use Rattle.layout.specs.declared.edition.Edition.the-variants.{First}
 use Rattle.layout.specs.declared.record.Record.{Record}
-use Rattle.layout.specs.Records.{blank, channelOf, firstBad}
+use Rattle.layout.specs.Editions.{size, held, alike}
+use Rattle.layout.specs.Records.{blank, channelOf, editionOf, secondIn, positionIn, firstBad}
 use Rattle.layout.specs.Plays.{bit}
 use Rattle.layout.specs.Sdec.{soundText}
 use Rattle.layout.specs.Write.{cnttCount}
 use Rattle.layout.proofs.Texts.{text-most}
 use Rattle.write_plan.specs.declared.Checked.{Checked}
-use Rattle.write_plan.specs.Checking.{refusedAt, firstChecked, begun, chunksSize, claimed, larger, recordsNever, Looking, looked, takenAt}
+use Rattle.write_plan.specs.Checking.{refusedAt, firstChecked, begun, due, chunksSize, claimed, larger, recordsNever, Looking, looked, takenAt}
+use Rattle.write_plan.proofs.Made.{second-kept}
 use Rattle.write_plan.proofs.Looking.{size-most, count-most}
 
 abbrev Held : Checked → ℕ → Type 0
-Held x i = (x .length ≤ 271 + 45 * i) × (x .seconds ≤ i)
+Held x i = (x .length ≤ 271 + 55 * i) × (x .seconds ≤ i)
 
 begun-held : (text : List ℕ) (lent count : ℕ) → Held (firstChecked text lent count) 0
 unfolding firstChecked refusedAt
 begun-held text lent count = go (ltb lent count) (soundText text) refl
   where
-    go : (a b : Bool) → soundText text ≡ b → Held (cond a (refusedAt 16 0) (cond (not b) (refusedAt 8 0) (record { number = 0; place = 0; records = count; length = 16 + length text; seen = 0; seconds = 0; reach = 0 }))) 0
+    go : (a b : Bool) → soundText text ≡ b → Held (cond a (refusedAt 16 0) (cond (not b) (refusedAt 8 0) (record { number = 0; place = 0; records = count; edition = First; length = 16 + length text; seen = 0; seconds = 0; reach = 0 }))) 0
     go true b e = (omega arith, omega arith)
     go false false e = (omega arith, omega arith)
     go false true e = (omega (arith, text-most text e), omega arith)
 
 looked-held : (c : List ℕ) (x : Checked) (i : ℕ) (r : Record) → Held x i → Held (looked c x i r) (suc i)
 unfolding looked refusedAt
-looked-held c x i r h = go (eqb (x .number) 0) (ltb (firstBad r) 26) (bit (x .seen) (channelOf r))
+looked-held c x i r h = go (eqb (x .number) 0) (alike e (editionOf r)) (ltb (firstBad r) (held (editionOf r))) (bit (x .seen) (channelOf r)) refl
   where
+    e : Edition
+    e = due i (x .edition) (editionOf r)
+
     y : Checked
     y = record {
       number = 0;
       place = 0;
       records = x .records;
-      length = x .length + chunksSize (r .second);
+      edition = e;
+      length = x .length + chunksSize e (cnttCount (secondIn r));
       seen = bitOr (x .seen) (2 ^ channelOf r);
-      seconds = x .seconds + cnttCount (r .second);
-      reach = larger (x .reach) (claimed c (r .position) (r .second));
+      seconds = x .seconds + cnttCount (secondIn r);
+      reach = larger (x .reach) (claimed c (positionIn r) (secondIn r));
     }
 
-    go : (a b d : Bool) → Held (cond (not a) x (cond b (refusedAt 9 (27 * i + firstBad r)) (cond d (refusedAt 10 (27 * i)) y))) (suc i)
-    go false b d = (omega (arith, h .0), omega (arith, h .1))
-    go true true d = (omega arith, omega arith)
-    go true false true = (omega arith, omega arith)
-    go true false false = (omega (arith, h .0, size-most (r .second)), omega (arith, h .1, count-most (r .second)))
+    go : (a t b d : Bool) → alike e (editionOf r) ≡ t
+        → Held (cond (not a) x (cond (not t) (refusedAt 21 (size e * i)) (cond b (refusedAt 9 (size e * i + firstBad r)) (cond d (refusedAt 10 (size e * i)) y)))) (suc i)
+    go false t b d q = (omega (arith, h .0), omega (arith, h .1))
+    go true false b d q = (omega arith, omega arith)
+    go true true true d q = (omega arith, omega arith)
+    go true true false true q = (omega arith, omega arith)
+    go true true false false q =
+        let z = rw (second-kept (r .form)) at (size-most e (editionOf r) (secondIn r) q) in
+        (omega (arith, h .0, z), omega (arith, h .1, count-most (secondIn r)))
 
 held-at : (text : List ℕ) (lent count : ℕ) (rs : List Record) (i : ℕ) → Held (takenAt (begun text lent count) rs i .checked) i
 unfolding takenAt
@@ -67,7 +79,7 @@ pub records-within : (text : List ℕ) (lent count : ℕ) → firstChecked text 
 unfolding firstChecked refusedAt
 records-within text lent count = go (ltb lent count) (soundText text) refl
   where
-    go : (a b : Bool) → ltb lent count ≡ a → cond a (refusedAt 16 0) (cond (not b) (refusedAt 8 0) (record { number = 0; place = 0; records = count; length = 16 + length text; seen = 0; seconds = 0; reach = 0 })) .records ≤ lent
+    go : (a b : Bool) → ltb lent count ≡ a → cond a (refusedAt 16 0) (cond (not b) (refusedAt 8 0) (record { number = 0; place = 0; records = count; edition = First; length = 16 + length text; seen = 0; seconds = 0; reach = 0 })) .records ≤ lent
     go true b e = omega arith
     go false false e = omega arith
     go false true e = omega (arith, ltb-false lent count e)

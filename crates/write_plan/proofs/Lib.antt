@@ -2,6 +2,7 @@ pub mod Bits
 pub mod Seen
 pub mod Down
 pub mod Slots
+pub mod Made
 pub mod Looking
 pub mod Length
 pub mod Running

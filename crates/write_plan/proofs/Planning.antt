@@ -10,20 +10,25 @@ use lib.Dec.{ltb}
 use lib.ListN.{length, getD, take, length-append}
 use lib.Seq.{getD-take, length-take-le}
 use borrow.Author.Tests.{lt-ltb, le-ltb, ltb-true, ltb-false}
+use Rattle.layout.specs.declared.edition.Edition.{Edition}
+use Rattle.layout.specs.declared.edition.Edition.the-variants.{First, Second}
 use Rattle.layout.specs.declared.record.Record.{Record}
 use Rattle.layout.specs.declared.turn.Run.the-variants.{Ended}
 use Rattle.layout.specs.Scan.{run}
 use Rattle.layout.specs.Bytes.{four, chunk}
 use Rattle.layout.specs.Answers.{refused, granted, afterRun}
-use Rattle.layout.specs.Records.{blank, bytesOf, channelOf, fileBytes}
+use Rattle.layout.specs.Editions.{tagOf, size as sizeOf, closing}
+use Rattle.layout.specs.Records.{blank, bytesOf, channelOf, formEdition, editionOf, fileBytes}
 use Rattle.layout.specs.Sdec.{soundText}
-use Rattle.layout.specs.Write.{ctabBytes, cnttsBytes, payloadBytes, groupBytes, wrongPositions, recordTurn, recordsRun, groupFrom, written}
+use Rattle.layout.specs.Write.{ctabBytes, cnttsBytes, payloadBytes, groupBytes, wrongPositions, firstEdition, recordTurn, recordsRun, groupFrom, written}
+use Rattle.layout.proofs.Editions.{closed-length}
+use Rattle.layout.proofs.Records.{bytes-length}
 use Rattle.layout.proofs.Runs.{run-end}
 use Rattle.layout.proofs.Sixteen.{at-most-sixteen}
 use Rattle.write_plan.specs.declared.Taken.{Taken}
 use Rattle.write_plan.specs.declared.Plan.{Plan}
 use Rattle.write_plan.specs.Chunks.{cnttsDown}
-use Rattle.write_plan.specs.Checking.{noCntts, refusedAt, taken, takenAt, noPlan, planned, planOf}
+use Rattle.write_plan.specs.Checking.{noCntts, refusedAt, taken, takenAt, OneEdition, noPlan, planned, planOf}
 use Rattle.write_plan.proofs.Seen.{seen-start}
 use Rattle.write_plan.proofs.Looking.{begun-many, begun-bad, begun-sound, planned-not, planned-wrong, planned-short, planned-fits}
 use Rattle.write_plan.proofs.Down.{cntts-length}
@@ -32,21 +37,34 @@ use Rattle.write_plan.proofs.Running.{Going, Halted, going}
 
 -- ---- the group's length
 
-pub ctab-length : (r : Record) → length (ctabBytes r) ≡ 35
-unfolding ctabBytes chunk four fileBytes bytesOf
-ctab-length r = refl
+chunk-length : (e : Edition) (b : List ℕ) → length (chunk (tagOf e) b) ≡ 8 + length b
+unfolding chunk four
+chunk-length First b = omega arith
+chunk-length Second b = omega arith
 
-pub ctabs-length : (rs : List Record) → length (flatMap ctabBytes rs) ≡ 35 * length rs
+pub ctab-length : (r : Record) → length (ctabBytes r) ≡ 8 + sizeOf (editionOf r)
+unfolding ctabBytes fileBytes
+ctab-length r = omega (arith, chunk-length (editionOf r) (bytesOf r ++ closing (editionOf r)), closed-length (editionOf r) (bytesOf r) (bytes-length r))
+
+pub ctabs-length : (e : Edition) (rs : List Record) → OneEdition e rs (length rs) → length (flatMap ctabBytes rs) ≡ (8 + sizeOf e) * length rs
 unfolding flatMap
-ctabs-length [] = refl
-ctabs-length (r ∷ rs) = omega (arith, length-append (ctabBytes r) (flatMap ctabBytes rs), ctab-length r, ctabs-length rs)
+ctabs-length e [] h = omega arith
+ctabs-length e (r ∷ rs) h =
+    omega (arith, length-append (ctabBytes r) (flatMap ctabBytes rs), ctab-length r, ap sizeOf (h 0 (omega arith)), ctabs-length e rs (λ i l. h (suc i) (omega arith)))
 
-pub group-length : (text : List ℕ) (rs : List Record) → length (groupBytes (record { text = text; records = rs })) ≡ 16 + length text + 35 * length rs + length (cnttsBytes rs)
+pub group-length : (text : List ℕ) (e : Edition) (rs : List Record) → OneEdition e rs (length rs)
+    → length (groupBytes (record { text = text; records = rs })) ≡ 16 + length text + (8 + sizeOf e) * length rs + length (cnttsBytes rs)
 unfolding groupBytes payloadBytes chunk four
-group-length text rs =
+group-length text e rs h =
     let a = length-append (flatMap ctabBytes rs) (cnttsBytes rs) in
     let b = length-append text (flatMap ctabBytes rs ++ cnttsBytes rs) in
-    omega (arith, a, b, ctabs-length rs)
+    omega (arith, a, b, ctabs-length e rs h)
+
+-- the first of a table's records are of the edition that they have in it
+pub editions-take : (e : Edition) (rs : List Record) (n : ℕ) → n ≤ length rs → OneEdition e rs n → OneEdition e (take n rs) (length (take n rs))
+editions-take e rs n h all i l =
+    let z : i < n = omega (arith, length-take-le n rs h) in
+    all i z ∙ ap editionOf (sym (getD-take n rs i blank z))
 
 -- ---- what a plan says
 
@@ -60,10 +78,12 @@ pub record NotPlanned (text : List ℕ) (table : List Record) (count room : ℕ)
 
 -- accepted, and the group fits
 pub record Planned (text : List ℕ) (table : List Record) (count room : ℕ) (p : Plan) : Type 0 where
+  pub edition : Edition
   pub seconds : ℕ
   pub cntts : List ℕ
-  pub plan : p ≡ record { number = 0; place = 0; records = count; length = length (groupBytes (groupFrom text table count)); seconds = seconds; cntts = cntts }
+  pub plan : p ≡ record { number = 0; place = 0; records = count; edition = edition; length = length (groupBytes (groupFrom text table count)); seconds = seconds; cntts = cntts }
   pub within : count ≤ length table
+  pub editions : OneEdition edition table count
   pub few : seconds ≤ 16
   pub down : cnttsDown cntts seconds ≡ cnttsBytes (take count table)
   pub fits : length (groupBytes (groupFrom text table count)) ≤ room
@@ -96,7 +116,7 @@ module _ (text : List ℕ) (table : List Record) (count room : ℕ) where
     rs = take count table
 
     abbrev begins : Taken
-    begins = record { checked = record { number = 0; place = 0; records = count; length = 16 + length text; seen = 0; seconds = 0; reach = 0 }; cntts = noCntts }
+    begins = record { checked = record { number = 0; place = 0; records = count; edition = First; length = 16 + length text; seen = 0; seconds = 0; reach = 0 }; cntts = noCntts }
 
     abbrev ends : Taken
     ends = takenAt begins rs count
@@ -128,6 +148,18 @@ module _ (text : List ℕ) (table : List Record) (count room : ℕ) where
       few : count ≤ 16
       few = at-most-sixteen _ count (g .channels)
 
+      -- the edition of the first is that of the plan; where there is none, it is the first edition
+      edition : ends .checked .edition ≡ firstEdition rs
+      unfolding takenAt firstEdition formEdition
+      edition = go count (g .edition)
+        where
+          go : (m : ℕ) → ((m ≡ 0 → ⊥) → takenAt begins (take m table) m .checked .edition ≡ firstEdition (take m table)) → takenAt begins (take m table) m .checked .edition ≡ firstEdition (take m table)
+          go zero h = refl
+          go (suc m) h = h (λ z. omega arith)
+
+      editions : OneEdition (ends .checked .edition) table count
+      editions i l = edition ∙ (g .editions i l ∙ ap editionOf (getD-take count table i blank l))
+
       ended : run (recordTurn rs) 0 (length rs) ≡ Ended count
       ended = g .rest ∙ run-end (recordTurn rs) count (length rs) long
 
@@ -155,7 +187,9 @@ module _ (text : List ℕ) (table : List Record) (count room : ℕ) where
         down = down-is rs count _ _ _ long few (g .down) e
 
         size : ends .checked .length ≡ length (groupBytes (groupFrom text table count))
-        size = omega (arith, g .size, group-length text rs, long, ap length down, cntts-length (ends .cntts) (ends .checked .seconds))
+        size =
+            let whole = rw long at (group-length text (firstEdition rs) rs (λ i l. g .editions i (omega (arith, long)))) in
+            omega (arith, g .size, whole, ap length down, cntts-length (ends .cntts) (ends .checked .seconds))
 
         placed : Says (planOf text table count room)
         unfolding afterRun
@@ -174,9 +208,11 @@ module _ (text : List ℕ) (table : List Record) (count room : ℕ) where
                 let fits : length (groupBytes (groupFrom text table count)) ≤ room = omega arith in
                 inr (record {
                   plan = looks ∙ (planned-fits ends room (g .number) right (rw size fits) ∙ rw (g .records ∙ long, size));
+                  edition = ends .checked .edition;
                   seconds = ends .checked .seconds;
                   cntts = ends .cntts;
                   within = h;
+                  editions = editions;
                   few = down-few rs count _ _ _ long few (g .down);
                   down = down;
                   fits = fits;
@@ -195,6 +231,8 @@ module _ (text : List ℕ) (table : List Record) (count room : ℕ) where
         record {
           number = refl;
           records = sym long;
+          edition = λ z. absurd (z refl);
+          editions = λ j l. absurd (omega arith);
           seen = seen-start (λ j. channelOf (getD rs j blank));
           channels = record { low = λ i l. absurd (omega arith); apart = λ i j k l. absurd (omega arith) };
           down = down-start rs;

@@ -19,7 +19,7 @@ use Rattle.layout.specs.declared.record.SecondTable.the-variants.{Absent, Value
 use Rattle.layout.specs.Scan.{firstOf, first}
 use Rattle.layout.specs.Bytes.{Cntt, chunk}
 use Rattle.layout.specs.Ranges.{inside, cnttValue}
-use Rattle.layout.specs.Records.{blank, channelOf, badSecond}
+use Rattle.layout.specs.Records.{blank, channelOf, secondIn, positionIn, badSecond}
 use Rattle.layout.specs.Write.{cnttBytes, cnttCount, cnttsIn, placedAt, atPosition, cnttOn, cnttsBytes, wrongPosition, wrongPositions}
 use Rattle.layout.proofs.Scans.{first-kept, first-grown, first-passed}
 use Rattle.layout.proofs.Positions.{Positions, positions-right, position-taken, cntts-most}
@@ -43,7 +43,7 @@ value-sound v h z = true≢false (rw z at h)
 
 -- ---- how many Cntts records have
 
-count-last : (rs : List Record) (r : Record) → cnttsIn (rs ++ (r ∷ [])) ≡ cnttsIn rs + cnttCount (r .second)
+count-last : (rs : List Record) (r : Record) → cnttsIn (rs ++ (r ∷ [])) ≡ cnttsIn rs + cnttCount (secondIn r)
 unfolding cnttsIn
 count-last [] r = omega arith
 count-last (q ∷ rs) r = omega (arith, count-last rs r)
@@ -59,7 +59,7 @@ module _ (rs : List Record) where
   pub record Full (i : ℕ) (c : List ℕ) (p : ℕ) : Type 0 where
     pub one : atPosition rs i p < i
     pub value : getD c (2 * p - 1) 0 ≡ 0 → ⊥
-    pub cntt : let r = getD rs (atPosition rs i p) blank in chunk Cntt (getD c (2 * p - 2) 0 ∷ getD c (2 * p - 1) 0 ∷ []) ≡ cnttBytes (channelOf r) (r .second)
+    pub cntt : let r = getD rs (atPosition rs i p) blank in chunk Cntt (getD c (2 * p - 2) 0 ∷ getD c (2 * p - 1) 0 ∷ []) ≡ cnttBytes (channelOf r) (secondIn r)
 
   abbrev pub Slot : ℕ → List ℕ → ℕ → Type 0
   Slot i c p = Empty i c p ⊎ Full i c p
@@ -85,8 +85,8 @@ module _ (rs : List Record) where
 abbrev pub wrongAmong : List Record → ℕ → ℕ → Bool
 wrongAmong rs m j =
     let r = getD rs j blank in
-    cond (eqb (cnttCount (r .second)) 0) (ltb 0 (r .position))
-    (eqb (r .position) 0 || (ltb m (r .position) || ltb (atPosition rs j (r .position)) j))
+    cond (eqb (cnttCount (secondIn r)) 0) (ltb 0 (positionIn r))
+    (eqb (positionIn r) 0 || (ltb m (positionIn r) || ltb (atPosition rs j (positionIn r)) j))
 
 -- ---- what is so when i records are looked at
 
@@ -111,10 +111,10 @@ module _ (rs : List Record) (i seconds reach : ℕ) (c : List ℕ) (d : Down rs 
   r = getD rs i blank
 
   abbrev q : ℕ
-  q = r .position
+  q = positionIn r
 
   -- what it claims is more than there are exactly where its position is wrong
-  claims : (m : ℕ) → m ≤ 16 → (s : SecondTable) → r .second ≡ s → ltb m (claimed c q s) ≡ wrongAmong rs m i
+  claims : (m : ℕ) → m ≤ 16 → (s : SecondTable) → secondIn r ≡ s → ltb m (claimed c q s) ≡ wrongAmong rs m i
   unfolding claimed cnttCount
   claims m l Absent e = rw e (go (decLt 0 q))
     where
@@ -138,7 +138,7 @@ module _ (rs : List Record) (i seconds reach : ℕ) (c : List ℕ) (d : Down rs 
   after v = set (set c (2 * q - 2) (channelOf r)) (2 * q - 1) v
 
   -- its own, where it is free
-  own : (v : ℕ) → r .second ≡ Value v → (v ≡ 0 → ⊥) → 0 < q → q ≤ 16 → Empty rs i c q → Full rs (i + 1) (after v) q
+  own : (v : ℕ) → secondIn r ≡ Value v → (v ≡ 0 → ⊥) → 0 < q → q ≤ 16 → Empty rs i c q → Full rs (i + 1) (after v) q
   unfolding placedAt cnttCount cnttBytes atPosition
   own v e sound a b s =
       let here : atPosition rs (i + 1) q ≡ i = first-grown (λ j. placedAt q (getD rs j blank)) i (s .none) ∙ rw (e, eq-eqb q q refl) in
@@ -148,11 +148,11 @@ module _ (rs : List Record) (i seconds reach : ℕ) (c : List ℕ) (d : Down rs 
       record { one = omega (arith, here); value = λ z. sound (sym value ∙ z); cntt = rw (here, value, channel, e) }
 
   module _ (p : ℕ) (a : 0 < p) (b : p ≤ 16) where
-    without : r .second ≡ Absent → Slot rs (i + 1) c p
+    without : secondIn r ≡ Absent → Slot rs (i + 1) c p
     unfolding placedAt cnttCount
     without e = slot-kept rs i c c p refl refl (rw e) (d .slots p a b)
 
-    module _ (v : ℕ) (e : r .second ≡ Value v) where
+    module _ (v : ℕ) (e : secondIn r ≡ Value v) where
       placed-is : placedAt p r ≡ eqb q p
       unfolding placedAt cnttCount
       placed-is = rw e
@@ -186,7 +186,7 @@ module _ (rs : List Record) (i seconds reach : ℕ) (c : List ℕ) (d : Down rs 
               let y : p ≡ q = sym (eqb-true q p z) in
               inr (rw y (own v e sound (there .0) (there .1) (rw y at s)))
 
-  laid : (s : SecondTable) → r .second ≡ s → badSecond s ≡ false → (length (laidDown c q (channelOf r) s) ≡ 32) × ((p : ℕ) → 0 < p → p ≤ 16 → Slot rs (i + 1) (laidDown c q (channelOf r) s) p)
+  laid : (s : SecondTable) → secondIn r ≡ s → badSecond s ≡ false → (length (laidDown c q (channelOf r) s) ≡ 32) × ((p : ℕ) → 0 < p → p ≤ 16 → Slot rs (i + 1) (laidDown c q (channelOf r) s) p)
   unfolding laidDown
   laid Absent e good = (d .long, λ p a b. without p a b e)
   laid (Value v) e good = go (free c q) refl
@@ -195,15 +195,15 @@ module _ (rs : List Record) (i seconds reach : ℕ) (c : List ℕ) (d : Down rs 
       go false f = (d .long, λ p a b. stays p a b v e f)
       go true f = (length-set (set c (2 * q - 2) (channelOf r)) (2 * q - 1) v ∙ (length-set c (2 * q - 2) (channelOf r) ∙ d .long), λ p a b. lies p a b v e (value-sound v good) f)
 
-  pub down-step : i < length rs → badSecond (r .second) ≡ false
-      → Down rs (i + 1) (seconds + cnttCount (r .second)) (larger reach (claimed c q (r .second))) (laidDown c q (channelOf r) (r .second))
+  pub down-step : i < length rs → badSecond (secondIn r) ≡ false
+      → Down rs (i + 1) (seconds + cnttCount (secondIn r)) (larger reach (claimed c q (secondIn r))) (laidDown c q (channelOf r) (secondIn r))
   down-step l good =
-      let x = laid (r .second) refl good in
+      let x = laid (secondIn r) refl good in
       record {
         long = x .0;
-        count = rw (add-one i) (ap (λ (n : ℕ). n + cnttCount (r .second)) (d .count) ∙ sym (ap cnttsIn (take-suc rs i blank l) ∙ count-last (take i rs) r));
+        count = rw (add-one i) (ap (λ (n : ℕ). n + cnttCount (secondIn r)) (d .count) ∙ sym (ap cnttsIn (take-suc rs i blank l) ∙ count-last (take i rs) r));
         slots = x .1;
-        wrong = λ m k. below-larger reach (claimed c q (r .second)) m ∙ (ap₂ _||_ (claims m k (r .second) refl) (d .wrong m k) ∙ sym (found-next (wrongAmong rs m) i));
+        wrong = λ m k. below-larger reach (claimed c q (secondIn r)) m ∙ (ap₂ _||_ (claims m k (secondIn r) refl) (d .wrong m k) ∙ sym (found-next (wrongAmong rs m) i));
       }
 
 -- ---- all records looked at

@@ -4,6 +4,7 @@ use mathlib.Core.List.{List, [], _∷_, flatMap}
 use lib.ListN.{getD}
 use Rattle.layout.specs.Bytes.{Cntt, chunk}
 use Rattle.layout.specs.Edit.{replaced}
+use Rattle.layout.specs.Group.{ctabPlace}
 use Rattle.layout.specs.Lists.{rows}
 use Rattle.write_plan.specs.declared.Plan.{Plan}
 use Rattle.write_plan.specs.Checking.{startPlace, startBytes}
@@ -19,4 +20,4 @@ cnttsDown cntts n = flatMap (cnttDown cntts) (rows (λ k. k) 0 n)
 -- a buffer with the group's start and, behind the room of its Ctabs, its Cntts; nothing on refusal
 unfoldable pub framed : List ℕ → Plan → List ℕ → List ℕ
 framed text p out =
-    replaced (replaced out 0 (startBytes text p)) (startPlace text p + 35 * p .records) (cnttsDown (p .cntts) (p .seconds))
+    replaced (replaced out 0 (startBytes text p)) (ctabPlace (p .edition) (startPlace text p) (p .records)) (cnttsDown (p .cntts) (p .seconds))

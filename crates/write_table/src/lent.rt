@@ -1,11 +1,12 @@
 // Passes over a lent table of records: what writing them comes to, and their Ctabs one after the other (document 01, "Writing and editing").
 ghost use mathlib.Core.Path.{_≡_};
 ghost use mathlib.Core.List.{flatMap};
-ghost use Prim.Native.Nat.{_+_, _*_, _≤_};
+ghost use Prim.Native.Nat.{_≤_};
 ghost use lib.ListN.{length, take};
 ghost use Rattle.layout.specs.Edit.{replaced};
-ghost use Rattle.layout.specs.Write.{ctabBytes};
-ghost use Rattle.write_plan.specs.Checking.{planOf};
+ghost use Rattle.layout.specs.Group.{ctabPlace};
+ghost use Rattle.layout.specs.Write.{firstEdition, ctabBytes};
+ghost use Rattle.write_plan.specs.Checking.{OneEdition, planOf};
 use layout::record::Record;
 use write_chunks::places::put_record;
 use write_plan::Plan;
@@ -26,9 +27,9 @@ pub fn plan_group(text: &[u8], table: &[Record], count: usize, room: usize) -> P
     plan_for(x, room)
 }
 
-// The Ctabs of the first n records, one after the other from `at` on.
+// The Ctabs of the first n records, which are of one edition, one after the other from `at` on.
 pub fn put_ctabs(table: &[Record], n: usize, out: &mut [u8], at: usize)
-    requires { ⌜ (n ≤ length (now table)) × (at + 35 * n ≤ length (now out)) ⌝ }
+    requires { ⌜ (n ≤ length (now table)) × (OneEdition (firstEdition (now table)) (now table) n × (ctabPlace (firstEdition (now table)) at n ≤ length (now out))) ⌝ }
     ensures { λ _. ⌜ now (out .exit) ≡ replaced (now (out .entry)) at (flatMap ctabBytes (take n (now (table .entry)))) ⌝ }
 {
     for i in 0..n {

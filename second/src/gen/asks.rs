@@ -2,10 +2,13 @@
 //! and 16 before the catalogue of bodies; and what plays, edit and the lookups share with them.
 
 use crate::body::read_body;
+use crate::edition::Edition;
 use crate::gen::bodies::{great_bodies, longest_sound, Bodies};
+use crate::gen::cntts::with_cntt;
+use crate::gen::ctb2;
 use crate::gen::dice::Dice;
 use crate::gen::positions::number_somehow;
-use crate::gen::sound::{plain, record, records, CNTT_VALUES};
+use crate::gen::sound::{plain, record, records_of, CNTT_VALUES};
 use crate::gen::spell::{body_line, Line};
 use crate::write::group_bytes;
 
@@ -15,18 +18,34 @@ pub const NO_GROUP: [u64; 6] = [3, 4, 32, 255, 256, 4_294_967_295];
 /// Source channels that the sample body has nowhere.
 pub const NO_CHANNEL: [u8; 4] = [7, 16, 128, 255];
 
-/// Three groups: 3 records with two Cntts in some order, none, and 1 record.
+/// Three groups of the first edition: 3 records with two Cntts in some order, none, and 1 record.
 pub fn sample(dice: &mut Dice) -> Vec<u8> {
-    let mut first = vec![plain(4), record(dice, 0), plain(15)];
-    first[0].second_table = Some(dice.pick(&CNTT_VALUES));
-    first[1].second_table = None;
-    first[2].second_table = Some(dice.pick(&CNTT_VALUES));
-    first[2].bytes[1..9].copy_from_slice(b" a b  \0 ");
+    let mut first = vec![
+        with_cntt(plain(4), Some(dice.pick(&CNTT_VALUES))),
+        with_cntt(record(dice, 0), None),
+        with_cntt(plain(15), Some(dice.pick(&CNTT_VALUES))),
+    ];
+    first[2][1..9].copy_from_slice(b" a b  \0 ");
     number_somehow(dice, &mut first);
     [
         group_bytes(b"Main A,Main B", &first),
         group_bytes(b"Ending A", &[]),
         group_bytes(b"Fill In AA", &[plain(9)]),
+    ]
+    .concat()
+}
+
+/// The same of an edition; the second has no Cntts.
+pub fn sample_of(dice: &mut Dice, edition: Edition) -> Vec<u8> {
+    if edition == Edition::First {
+        return sample(dice);
+    }
+    let mut records = [ctb2::plain(4), ctb2::record(dice, 0), ctb2::plain(15)];
+    records[2][1..9].copy_from_slice(b" a b  \0 ");
+    [
+        group_bytes(b"Main A,Main B", &records),
+        group_bytes(b"Ending A", &[]),
+        group_bytes(b"Fill In AA", &[ctb2::plain(9)]),
     ]
     .concat()
 }
@@ -49,10 +68,12 @@ pub fn over_bodies(
 }
 
 /// All of the catalogue but the moved faults.
-pub fn common_lists(bodies: &Bodies) -> [&[Vec<u8>]; 6] {
+pub fn common_lists(bodies: &Bodies) -> [&[Vec<u8>]; 8] {
     [
         &bodies.faults,
         &bodies.meetings,
+        &bodies.editions,
+        &bodies.second,
         &bodies.limits,
         &bodies.looks,
         &bodies.orders,
@@ -61,10 +82,12 @@ pub fn common_lists(bodies: &Bodies) -> [&[Vec<u8>]; 6] {
 }
 
 /// All of the catalogue.
-fn all_lists(bodies: &Bodies) -> [&[Vec<u8>]; 7] {
+fn all_lists(bodies: &Bodies) -> [&[Vec<u8>]; 9] {
     [
         &bodies.faults,
         &bodies.meetings,
+        &bodies.editions,
+        &bodies.second,
         &bodies.limits,
         &bodies.looks,
         &bodies.orders,
@@ -102,9 +125,11 @@ pub fn some_group(dice: &mut Dice, body: &[u8]) -> usize {
 pub fn group(dice: &mut Dice, bodies: &Bodies) -> Vec<Line> {
     let sample = sample(dice);
     let mut lines = Vec::new();
-    for (number, rooms) in [(0, &[3, 2, 0, 4, 32][..]), (1, &[0, 1]), (2, &[1, 0])] {
-        for room in rooms {
-            lines.push(body_line("group", &sample, &format!("{number} {room}")));
+    for body in [&sample, &sample_of(dice, Edition::Second)] {
+        for (number, rooms) in [(0, &[3, 2, 0, 4, 32][..]), (1, &[0, 1]), (2, &[1, 0])] {
+            for room in rooms {
+                lines.push(body_line("group", body, &format!("{number} {room}")));
+            }
         }
     }
     for number in NO_GROUP {
@@ -115,9 +140,11 @@ pub fn group(dice: &mut Dice, bodies: &Bodies) -> Vec<Line> {
     for tokens in ["- 0 0", "- 1 32", "00 9 0", "00 9 32"] {
         lines.push(format!("group {tokens}").into());
     }
-    let sixteen = group_bytes(b"Main A", &records(dice, 16));
-    for room in [15, 16, 17, 32] {
-        lines.push(body_line("group", &sixteen, &format!("0 {room}")));
+    for edition in [Edition::First, Edition::Second] {
+        let sixteen = group_bytes(b"Main A", &records_of(dice, edition, 16));
+        for room in [15, 16, 17, 32] {
+            lines.push(body_line("group", &sixteen, &format!("0 {room}")));
+        }
     }
     lines.extend(over_great("group", "0 4"));
     lines.extend(over_bodies(dice, "group", &common_lists(bodies), some_room));
@@ -165,11 +192,15 @@ pub fn record_questions(verb: &str, sample: &[u8]) -> Vec<Line> {
 
 pub fn voice(dice: &mut Dice, bodies: &Bodies) -> Vec<Line> {
     let mut lines = record_questions("voice", &sample(dice));
+    let second = sample_of(dice, Edition::Second);
+    lines.extend(record_questions("voice", &second));
     for name in VOICES {
-        let mut named = plain(2);
-        named.bytes[1..9].copy_from_slice(name);
-        let body = group_bytes(b"Main A", &[plain(6), named, plain(1)]);
-        lines.push(body_line("voice", &body, "0 2"));
+        for plain in [plain, ctb2::plain] {
+            let mut named = plain(2);
+            named[1..9].copy_from_slice(name);
+            let body = group_bytes(b"Main A", &[plain(6), named, plain(1)]);
+            lines.push(body_line("voice", &body, "0 2"));
+        }
     }
     lines.extend(over_great("voice", "0 0"));
     lines.extend(over_bodies(
@@ -185,12 +216,12 @@ pub fn voice(dice: &mut Dice, bodies: &Bodies) -> Vec<Line> {
 pub fn some_channel(dice: &mut Dice, body: &[u8]) -> String {
     if let Ok(groups) = read_body(body) {
         let full: Vec<usize> = (0..groups.len())
-            .filter(|&number| !groups[number].ctabs.is_empty())
+            .filter(|&number| !groups[number].records.is_empty())
             .collect();
         if !full.is_empty() && dice.percent(80) {
             let number = dice.pick(&full);
-            let ctabs = &groups[number].ctabs;
-            let channel = ctabs[dice.below(ctabs.len())].record.source_channel();
+            let records = &groups[number].records;
+            let channel = records[dice.below(records.len())].record.source_channel();
             return format!("{number} {channel}");
         }
     }

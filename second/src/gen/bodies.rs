@@ -3,11 +3,17 @@
 //! damaged.
 
 use crate::bytes::{CNTT, CSEG, CTAB, SDEC};
+use crate::edition::Edition;
+use crate::gen::cntts::with_cntt;
+use crate::gen::ctb2_bodies;
+use crate::gen::ctb2_faults;
 use crate::gen::dice::Dice;
-use crate::gen::draft::{body_bytes, cntt, ctab, Chunk, Draft};
+use crate::gen::draft::{body_bytes, cntt, record_chunk, Chunk, Draft};
 use crate::gen::faults::{further, long_text, principal, text_of_256, Fault};
 use crate::gen::positions::{number, number_somehow, ORDERS};
-use crate::gen::sound::{full_group, plain, records, small_group, text_of_length, CNTT_VALUES};
+use crate::gen::sound::{
+    full_group, plain, records, records_of, small_group, text_of_length, CNTT_VALUES,
+};
 use crate::gen::spell::spell_parts;
 use crate::style::BODY_LIMIT;
 use crate::write::{chunk, group_bytes};
@@ -17,10 +23,14 @@ use std::collections::HashSet;
 pub struct Bodies {
     /// One body for each principal fault, at turning positions.
     pub faults: Vec<Vec<u8>>,
-    /// The principal faults at the other two positions.
+    /// The same for the second edition, and for Ctb2s beside Ctabs and Cntts.
+    pub second: Vec<Vec<u8>>,
+    /// The principal faults at the other two positions, and more of the second edition.
     pub moved: Vec<Vec<u8>>,
     /// More faults of the same kinds.
     pub further: Vec<Vec<u8>>,
+    /// Groups of both editions in a body, and what only the second edition has.
+    pub editions: Vec<Vec<u8>>,
     /// Cntts in any order, sound and with a fault behind them.
     pub orders: Vec<Vec<u8>>,
     pub meetings: Vec<Vec<u8>>,
@@ -29,14 +39,26 @@ pub struct Bodies {
 }
 
 pub fn bodies(dice: &mut Dice) -> Bodies {
-    let principal = principal();
-    let faults = pass(dice, &principal, 0);
-    let mut moved = pass(dice, &principal, 1);
-    moved.extend(pass(dice, &principal, 2));
+    let (ctabs, ctb2s) = (principal(), ctb2_faults::principal());
+    let beside = ctb2_faults::beside();
+    let mut pass_by = |edition, faults: &[Fault], turn| pass(dice, edition, faults, turn);
+    let faults = pass_by(Edition::First, &ctabs, 0);
+    let mut second = pass_by(Edition::Second, &ctb2s, 0);
+    second.extend(pass_by(Edition::First, &beside, 0));
+    let mut moved = Vec::new();
+    for turn in [1, 2] {
+        moved.extend(pass_by(Edition::First, &ctabs, turn));
+        moved.extend(pass_by(Edition::Second, &ctb2s, turn));
+        moved.extend(pass_by(Edition::First, &beside, turn));
+    }
+    moved.extend(pass_by(Edition::Second, &ctb2_faults::further(), 0));
+    let further = pass_by(Edition::First, &further(), 0);
     Bodies {
         faults,
+        second,
         moved,
-        further: pass(dice, &further(), 0),
+        further,
+        editions: ctb2_bodies::bodies(dice),
         orders: orders(dice),
         meetings: meetings(),
         limits: limits(dice),
@@ -45,19 +67,29 @@ pub fn bodies(dice: &mut Dice) -> Bodies {
 }
 
 /// One body for each fault; three passes put it in every group and at every spot.
-fn pass(dice: &mut Dice, faults: &[Fault], pass: usize) -> Vec<Vec<u8>> {
-    faults
-        .iter()
-        .enumerate()
-        .map(|(number, fault)| faulty_body(dice, fault, number + pass, number / 3 + pass))
+fn pass(dice: &mut Dice, edition: Edition, faults: &[Fault], pass: usize) -> Vec<Vec<u8>> {
+    let numbered = faults.iter().enumerate();
+    numbered
+        .map(|(number, fault)| {
+            let spot = number / 3 + pass;
+            faulty_body(dice, edition, fault, number + pass, spot)
+        })
         .collect()
 }
 
 /// A body of three groups with a fault in the first, middle or last one, at a spot of it.
-fn faulty_body(dice: &mut Dice, fault: &Fault, group: usize, spot: usize) -> Vec<u8> {
+fn faulty_body(
+    dice: &mut Dice,
+    edition: Edition,
+    fault: &Fault,
+    group: usize,
+    spot: usize,
+) -> Vec<u8> {
     let mut used = HashSet::new();
-    let mut groups: Vec<Draft> = (0..3).map(|_| small_group(dice, &mut used)).collect();
-    groups[group % 3] = full_group(dice, &mut used);
+    let mut groups: Vec<Draft> = (0..3)
+        .map(|_| small_group(dice, edition, &mut used))
+        .collect();
+    groups[group % 3] = full_group(dice, edition, &mut used);
     fault(&mut groups[group % 3], spot % 3);
     body_bytes(&groups)
 }
@@ -66,11 +98,7 @@ fn faulty_body(dice: &mut Dice, fault: &Fault, group: usize, spot: usize) -> Vec
 fn channels(text: &str, channels: &[u8]) -> Draft {
     let records: Vec<_> = channels
         .iter()
-        .map(|&channel| {
-            let mut record = plain(channel);
-            record.second_table = Some(0x81);
-            record
-        })
+        .map(|&channel| with_cntt(plain(channel), Some(0x81)))
         .collect();
     Draft::new(text.as_bytes(), &records)
 }
@@ -97,7 +125,7 @@ fn orders(dice: &mut Dice) -> Vec<Vec<u8>> {
     for order in ORDERS {
         let mut full = records(dice, 16);
         for record in &mut full {
-            record.second_table = Some(dice.pick(&CNTT_VALUES));
+            *record = with_cntt(*record, Some(dice.pick(&CNTT_VALUES)));
         }
         number(dice, &mut full, order);
         let some = arranged("Main B", &[3, 1, 2], &[1, 3]).bytes();
@@ -198,16 +226,16 @@ fn spoilt_cntts() -> Vec<Draft> {
     for length in [1, 4, 7] {
         put(&|group| group.tail = b"Cntt\0\0\0"[..length].to_vec());
     }
-    for tag in [SDEC, CSEG, *b"Ctb2"] {
+    for tag in [SDEC, CSEG, *b"Ctb3"] {
         put(&|group| group.children.push(Chunk::new(tag, b"Second")));
     }
-    put(&|group| group.children.push(ctab(&plain(3))));
+    put(&|group| group.children.push(record_chunk(&plain(3))));
     put(&|group| group.children.swap(3, 4));
     list
 }
 
 /// One group of nothing but an Sdec.
-fn named(text: &str) -> Vec<u8> {
+pub fn named(text: &str) -> Vec<u8> {
     group_bytes(text.as_bytes(), &[])
 }
 
@@ -317,7 +345,7 @@ fn record_meetings() -> Vec<Vec<u8>> {
         list.push(group.bytes());
     }
     let mut group = sound.clone();
-    group.children.push(ctab(&plain(5)));
+    group.children.push(record_chunk(&plain(5)));
     list.push(group.bytes());
     list
 }
@@ -394,7 +422,9 @@ fn one_byte_names() -> Vec<u8> {
 fn seventeen(dice: &mut Dice, channel: u8) -> Draft {
     let mut group = Draft::new(b"Main A", &records(dice, 16));
     let last = group.spot(CTAB, 2).unwrap_or(0);
-    group.children.insert(last + 1, ctab(&plain(channel)));
+    group
+        .children
+        .insert(last + 1, record_chunk(&plain(channel)));
     group
 }
 
@@ -406,13 +436,13 @@ fn looks(dice: &mut Dice) -> Vec<Vec<u8>> {
         .collect();
     for offset in 0..5 {
         let mut record = plain(3);
-        record.bytes[1 + offset..5 + offset].copy_from_slice(b"CSEG");
+        record[1 + offset..5 + offset].copy_from_slice(b"CSEG");
         list.push([named("Main A"), group_bytes(b"Main B", &[record])].concat());
     }
     let mut record = plain(3);
-    record.bytes[1..9].copy_from_slice(b"Ctab\0\0\0\x1B");
+    record[1..9].copy_from_slice(b"Ctab\0\0\0\x1B");
     list.push(group_bytes(b"Main B", &[record, plain(4)]));
-    record.bytes[13..18].copy_from_slice(b"\x03CSEG");
+    record[13..18].copy_from_slice(b"\x03CSEG");
     list.push([group_bytes(b"Main B", &[record]), named("Main C")].concat());
     let text = seg_text();
     list.push(group_bytes(&text, &[plain(0)]));
@@ -440,7 +470,7 @@ pub fn seg_text() -> Vec<u8> {
 /// Group lengths that end between two chunks: a sound group with fewer records, and a rest.
 fn shortened(dice: &mut Dice) -> Vec<Vec<u8>> {
     let mut list = Vec::new();
-    let group = full_group(dice, &mut HashSet::new());
+    let group = full_group(dice, Edition::First, &mut HashSet::new());
     for keep in 1..group.children.len() {
         let mut short = group.clone();
         let kept: usize = short.children[..keep].iter().map(Chunk::size).sum();
@@ -477,12 +507,17 @@ pub fn great_bodies() -> Vec<String> {
 
 /// The longest sound body: 32 groups of a full text, 16 Ctabs and 16 Cntts.
 pub fn longest_sound(dice: &mut Dice) -> Vec<u8> {
+    long_groups(dice, Edition::First, 32)
+}
+
+/// So many groups of a full text and 16 records, each of these with a Cntt where it can have one.
+pub fn long_groups(dice: &mut Dice, edition: Edition, count: usize) -> Vec<u8> {
     let mut used = HashSet::new();
     let mut body = Vec::new();
-    for _ in 0..32 {
-        let mut records = records(dice, 16);
+    for _ in 0..count {
+        let mut records = records_of(dice, edition, 16);
         for record in &mut records {
-            record.second_table = Some(dice.pick(&CNTT_VALUES));
+            *record = with_cntt(*record, Some(dice.pick(&CNTT_VALUES)));
         }
         number_somehow(dice, &mut records);
         let text = text_of_length(dice, 255, &mut used);

@@ -1,6 +1,7 @@
 //! Lines that break the grammar of the protocol, some for each verb, and beside them lines
 //! that only look as if they did.
 
+use crate::gen::ctb2;
 use crate::gen::sound::plain;
 use crate::gen::spell::{rec, Line};
 
@@ -132,11 +133,28 @@ pub fn broken(verb: &str) -> Vec<Line> {
     lines.into_iter().map(String::into_bytes).collect()
 }
 
-/// RECs that break the grammar, the old form with two parts among them, and the last few that
-/// do not.
+/// RECs that break the grammar, the old form with two parts and near misses of the second edition
+/// among them, and the last few that do not.
 fn records(sound: &str) -> Vec<String> {
     let digits = &sound[..52];
+    let second = rec(&ctb2::plain(3));
     let mut list = vec![
+        second.clone(),
+        format!("{second}:-:0"),
+        format!("{second}:84:1"),
+        format!("{second}:"),
+        format!("{second}-"),
+        format!("{second}00"),
+        second[2..].to_string(),
+        second[1..].to_string(),
+        second.to_uppercase(),
+        second.replace('f', "g"),
+        format!("{}:-:0", &second[..52]),
+        format!("{}:{}", &second[..52], &second[52..]),
+        "00".repeat(27),
+        "00".repeat(46),
+        "00".repeat(47),
+        "ff".repeat(48),
         digits.to_string(),
         format!("{digits}-"),
         format!("{}:-:0", &digits[2..]),

@@ -2,10 +2,12 @@
 //! probed for every root and every type.
 
 use crate::body::read_body;
-use crate::gen::asks::{common_lists, over_bodies, over_great, sample};
+use crate::edition::Edition;
+use crate::gen::asks::{common_lists, over_bodies, over_great, sample, sample_of};
 use crate::gen::bodies::Bodies;
+use crate::gen::ctb2;
 use crate::gen::dice::Dice;
-use crate::gen::sound::plain;
+use crate::gen::sound;
 use crate::gen::spell::{body_line, spell, Line};
 use crate::record::Record;
 use crate::sdec::names;
@@ -61,6 +63,19 @@ pub fn plays(dice: &mut Dice, bodies: &Bodies) -> Vec<Line> {
         lines.push(format!("plays 00 4d {root} {chord_type}").into());
     }
     lines.push(b"plays - - 0 0".to_vec());
+    let second = sample_of(dice, Edition::Second);
+    for (part, root, chord_type) in [
+        (&b"Main A"[..], 0, 0),
+        (b"Main B", 11, 33),
+        (b"Ending A", 3, 3),
+        (b"Fill In AA", 7, 19),
+        (b"Main C", 7, 19),
+        (b"Main A", 12, 0),
+        (b"Main A", 0, 34),
+    ] {
+        let tokens = format!("{} {root} {chord_type}", spell(part));
+        lines.push(body_line("plays", &second, &tokens));
+    }
     lines.extend(masks(dice));
     lines.extend(over_great("plays", "41 0 0"));
     let lists = common_lists(bodies);
@@ -68,7 +83,8 @@ pub fn plays(dice: &mut Dice, bodies: &Bodies) -> Vec<Line> {
     lines
 }
 
-/// Every root and every type, against records of one bit, of all but one bit, and by chance.
+/// Every root and every type, against records of one bit, of all but one bit, and by chance; every
+/// third time they are of the second edition.
 fn masks(dice: &mut Dice) -> Vec<Line> {
     let mut lines = Vec::new();
     for number in 0..12 + 34 {
@@ -79,6 +95,12 @@ fn masks(dice: &mut Dice) -> Vec<Line> {
         };
         let roots = 1u16 << root;
         let types = 1u64 << chord_type;
+        let plain = if number % 3 == 2 {
+            ctb2::plain
+        } else {
+            sound::plain
+        };
+        let masked = |channel, roots, types| masked(plain(channel), roots, types);
         let group = [
             masked(0, roots, types),
             masked(1, !roots & 0x0FFF, types),
@@ -98,10 +120,10 @@ fn masks(dice: &mut Dice) -> Vec<Line> {
     lines
 }
 
-fn masked(channel: u8, roots: u16, types: u64) -> Record {
-    let mut record = plain(channel);
-    record.bytes[11..13].copy_from_slice(&roots.to_be_bytes());
-    record.bytes[13..18].copy_from_slice(&types.to_be_bytes()[3..]);
+/// The record with these masks.
+fn masked(mut record: Record, roots: u16, types: u64) -> Record {
+    record[11..13].copy_from_slice(&roots.to_be_bytes());
+    record[13..18].copy_from_slice(&types.to_be_bytes()[3..]);
     record
 }
 

@@ -1,7 +1,8 @@
 //! Drafts of groups and style files: chunks whose declared length may lie, so that a fault
 //! can be put at one spot and all else stays sound.
 
-use crate::bytes::{Tag, CNTT, CSEG, CTAB, SDEC};
+use crate::bytes::{Tag, CNTT, CSEG, SDEC};
+use crate::gen::cntts::position;
 use crate::record::Record;
 
 /// A chunk; a declared length stands in the header in place of the true one.
@@ -49,11 +50,11 @@ impl Draft {
     /// and those of one position as their records do.
     pub fn new(text: &[u8], records: &[Record]) -> Draft {
         let mut children = vec![Chunk::new(SDEC, text)];
-        children.extend(records.iter().map(ctab));
+        children.extend(records.iter().map(record_chunk));
         let mut by_position: Vec<&Record> = records.iter().collect();
-        by_position.sort_by_key(|record| record.position);
+        by_position.sort_by_key(|record| position(record));
         for record in by_position {
-            if let Some(value) = record.second_table {
+            if let Some(value) = record.second_table() {
                 children.push(cntt(record.source_channel(), value));
             }
         }
@@ -116,11 +117,12 @@ impl Draft {
     }
 }
 
-/// A record's Ctab.
-pub fn ctab(record: &Record) -> Chunk {
-    let mut payload = record.bytes.to_vec();
-    payload.push(0x00);
-    Chunk::new(CTAB, &payload)
+/// A record's Ctab or Ctb2.
+pub fn record_chunk(record: &Record) -> Chunk {
+    let edition = record.edition();
+    let mut payload = record.bytes().to_vec();
+    payload.resize(edition.size(), 0x00);
+    Chunk::new(edition.tag(), &payload)
 }
 
 pub fn cntt(channel: u8, value: u8) -> Chunk {

@@ -1,6 +1,8 @@
 //! The systematic families: truncations at every byte and single changes of every byte, of a
 //! body with several groups and of a style file.
 
+use crate::gen::cntts::with_cntt;
+use crate::gen::ctb2;
 use crate::gen::dice::Dice;
 use crate::gen::draft::{Draft, StyleDraft};
 use crate::gen::positions::number_somehow;
@@ -31,12 +33,24 @@ fn family_records(dice: &mut Dice, cntts: &[bool]) -> Vec<Record> {
     let first = dice.below(16);
     let mut records = Vec::new();
     for (number, &has_cntt) in cntts.iter().enumerate() {
-        let mut record = record(dice, ((first + 5 * number) % 16) as u8);
-        record.second_table = has_cntt.then(|| dice.pick(&CNTT_VALUES));
-        records.push(record);
+        let record = record(dice, ((first + 5 * number) % 16) as u8);
+        let second_table = has_cntt.then(|| dice.pick(&CNTT_VALUES));
+        records.push(with_cntt(record, second_table));
     }
     number_somehow(dice, &mut records);
     records
+}
+
+/// A body of the second edition of at most 165 bytes: two or three groups with one or two Ctb2s.
+pub fn ctb2_family_body(dice: &mut Dice) -> Vec<u8> {
+    let shapes: [&[usize]; 4] = [&[1, 1], &[0, 1, 0], &[2], &[1, 0]];
+    let mut letters: Vec<u8> = (b'A'..=b'Z').collect();
+    let mut body = Vec::new();
+    for &count in dice.pick(&shapes) {
+        let text = [letters.swap_remove(dice.below(letters.len()))];
+        body.extend(Draft::new(&text, &ctb2::records(dice, count)).bytes());
+    }
+    body
 }
 
 /// A style file of a few sections around a small CASM.

@@ -3,12 +3,12 @@
 
 use crate::bytes::{Tag, CASM, CNTT, CSEG, CTAB, SDEC};
 use crate::gen::draft::{Chunk, Draft};
-use crate::record::RANGES;
+use crate::ranges::RANGES;
 
 /// Puts a fault at the first (0), a middle (1) or the last (2) spot.
 pub type Fault = Box<dyn Fn(&mut Draft, usize)>;
 
-fn fault(put: impl Fn(&mut Draft, usize) + 'static) -> Fault {
+pub fn fault(put: impl Fn(&mut Draft, usize) + 'static) -> Fault {
     Box::new(put)
 }
 
@@ -22,14 +22,18 @@ pub const GREAT_LENGTHS: [u32; 6] = [
     0xFFFF_FFF0,
 ];
 
-/// The faults that reach each refusal at each kind of place.
+/// The children of a first-edition group.
+const CHILDREN: [Tag; 3] = [SDEC, CTAB, CNTT];
+
+/// The faults that reach each refusal at each kind of place of a first-edition group.
 pub fn principal() -> Vec<Fault> {
     let mut list = Vec::new();
     list.extend(group_headers());
     list.extend(child_cuts(&[1, 7]));
     list.extend(child_tags());
-    list.extend(child_lengths());
-    list.extend(own_lengths(&[26, 28], &[1, 3]));
+    list.extend(child_lengths(&CHILDREN));
+    list.extend(own_lengths(CTAB, &[26, 28]));
+    list.extend(own_lengths(CNTT, &[1, 3]));
     list.extend(texts(&principal_texts()));
     list.extend(bytes_just_outside());
     list.extend(cntt_bytes(&[(0, 0x10), (1, 0x05), (1, 0x8B)]));
@@ -44,8 +48,9 @@ pub fn further() -> Vec<Fault> {
     list.extend(payloads());
     list.extend(child_cuts(&[2, 4, 6]));
     list.extend(strange_tags());
-    list.extend(great_child_lengths());
-    list.extend(own_lengths(&[0, 1, 54], &[0, 4]));
+    list.extend(great_child_lengths(&CHILDREN));
+    list.extend(own_lengths(CTAB, &[0, 1, 54]));
+    list.extend(own_lengths(CNTT, &[0, 4]));
     list.extend(texts(&further_texts()));
     list.extend(bytes_far_outside());
     let values = [0x00, 0x01, 0x02, 0x03, 0x0B, 0x7F, 0xFF];
@@ -98,16 +103,18 @@ fn payloads() -> Vec<Fault> {
         .collect()
 }
 
+/// A child header that begins with a tag cut after so many bytes, behind the last of a tag.
+pub fn cut(length: usize, after: Tag, start: Tag) -> Fault {
+    fault(move |group, _| {
+        if let Some(number) = group.spot(after, 2) {
+            group.children.truncate(number + 1);
+        }
+        group.tail = [start, [0; 4]].concat()[..length].to_vec();
+    })
+}
+
 /// A child header cut after so many bytes: behind the Sdec, the Ctabs and the Cntts.
 fn child_cuts(lengths: &'static [usize]) -> Vec<Fault> {
-    let cut = |length: usize, after: Tag, start: Tag| {
-        fault(move |group, _| {
-            if let Some(number) = group.spot(after, 2) {
-                group.children.truncate(number + 1);
-            }
-            group.tail = [start, [0; 4]].concat()[..length].to_vec();
-        })
-    };
     lengths
         .iter()
         .flat_map(|&length| {
@@ -130,7 +137,7 @@ fn child_tags() -> Vec<Fault> {
         fault(|group, spot| insert_after(group, CNTT, Chunk::new(CTAB, &[0; 27]), spot)),
     ];
     for after in [SDEC, CTAB, CNTT] {
-        for tag in [SDEC, CSEG, *b"Ctb2"] {
+        for tag in [SDEC, CSEG, *b"Ctb3"] {
             list.push(fault(move |group, spot| {
                 insert_after(group, after, Chunk::new(tag, b"Second"), spot);
             }));
@@ -153,7 +160,7 @@ fn strange_tags() -> Vec<Fault> {
 }
 
 /// Puts a chunk behind a child of this tag, or at the end where there is none.
-fn insert_after(group: &mut Draft, tag: Tag, chunk: Chunk, spot: usize) {
+pub fn insert_after(group: &mut Draft, tag: Tag, chunk: Chunk, spot: usize) {
     let place = match group.spot(tag, spot) {
         Some(number) => number + 1,
         None => group.children.len(),
@@ -163,9 +170,9 @@ fn insert_after(group: &mut Draft, tag: Tag, chunk: Chunk, spot: usize) {
 
 /// Child lengths past the group: by one and by some bytes of the next group; and one that
 /// ends exactly with the group.
-fn child_lengths() -> Vec<Fault> {
+pub fn child_lengths(tags: &[Tag]) -> Vec<Fault> {
     let mut list = Vec::new();
-    for tag in [SDEC, CTAB, CNTT] {
+    for &tag in tags {
         for over in [0, 1, 12] {
             list.push(fault(move |group, spot| {
                 if let Some(number) = group.spot(tag, spot) {
@@ -179,9 +186,9 @@ fn child_lengths() -> Vec<Fault> {
 }
 
 /// Child lengths with high bytes set over the true ones.
-fn great_child_lengths() -> Vec<Fault> {
+pub fn great_child_lengths(tags: &[Tag]) -> Vec<Fault> {
     let mut list = Vec::new();
-    for tag in [SDEC, CTAB, CNTT] {
+    for &tag in tags {
         for length in GREAT_LENGTHS {
             list.push(fault(move |group, spot| {
                 if let Some(number) = group.spot(tag, spot) {
@@ -194,18 +201,16 @@ fn great_child_lengths() -> Vec<Fault> {
     list
 }
 
-/// Ctabs not of 27 bytes and Cntts not of 2.
-fn own_lengths(ctabs: &'static [usize], cntts: &'static [usize]) -> Vec<Fault> {
-    let resize = |tag: Tag, length: usize| {
+/// Children of a tag that are of another length than their own.
+pub fn own_lengths(tag: Tag, lengths: &[usize]) -> Vec<Fault> {
+    let resize = |&length: &usize| {
         fault(move |group, spot| {
             if let Some(number) = group.spot(tag, spot) {
                 group.children[number].payload.resize(length, 0);
             }
         })
     };
-    let ctabs = ctabs.iter().map(|&length| resize(CTAB, length));
-    let cntts = cntts.iter().map(|&length| resize(CNTT, length));
-    ctabs.chain(cntts).collect()
+    lengths.iter().map(resize).collect()
 }
 
 fn texts(texts: &[Vec<u8>]) -> Vec<Fault> {
@@ -305,7 +310,7 @@ fn cntt_bytes(bytes: &[(usize, u8)]) -> Vec<Fault> {
         .collect()
 }
 
-fn child_byte(tag: Tag, index: usize, value: u8) -> Fault {
+pub fn child_byte(tag: Tag, index: usize, value: u8) -> Fault {
     fault(move |group, spot| {
         if let Some(number) = group.spot(tag, spot) {
             if let Some(byte) = group.children[number].payload.get_mut(index) {
@@ -334,7 +339,7 @@ fn channels() -> Vec<Fault> {
 }
 
 /// Gives a later child of a tag the channel of an earlier one.
-fn copy_channel(group: &mut Draft, tag: Tag, spot: usize) {
+pub fn copy_channel(group: &mut Draft, tag: Tag, spot: usize) {
     let numbers = group.numbers(tag);
     if numbers.len() > 1 {
         let (earlier, later) = match spot {
@@ -356,7 +361,7 @@ fn set_channel(group: &mut Draft, number: usize, channel: u8) {
 }
 
 /// Puts a child a second time behind the last of its tag.
-fn repeat_child(group: &mut Draft, tag: Tag, spot: usize) {
+pub fn repeat_child(group: &mut Draft, tag: Tag, spot: usize) {
     if let Some(number) = group.spot(tag, spot) {
         let again = group.children[number].clone();
         insert_after(group, tag, again, 2);

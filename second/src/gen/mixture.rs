@@ -2,7 +2,13 @@
 //! catalogue at some spot, ones with bytes changed, and a few that break the grammar.
 
 use crate::body::read_body;
+use crate::bytes::CTB2;
+use crate::edition::Edition;
 use crate::gen::chords::{some_chord, some_part};
+use crate::gen::cntts::{at_position, with_cntt};
+use crate::gen::ctb2::{self, SETS, TABLE_BOUNDS};
+use crate::gen::ctb2_bodies::other;
+use crate::gen::ctb2_faults;
 use crate::gen::dice::Dice;
 use crate::gen::draft::{body_bytes, Draft};
 use crate::gen::faults::{further, principal, Fault, GREAT_LENGTHS};
@@ -10,7 +16,10 @@ use crate::gen::narrow;
 use crate::gen::positions::{number_somehow, some_position, spoil};
 use crate::gen::sound;
 use crate::gen::spell::{rec, spell, spell_oddly, Line};
-use crate::record::{Record, FIELDS, RANGES};
+use crate::ranges::{
+    allowed, Allowed, GUITAR, HIGHEST_MIDDLE, HIGH_LIMIT, LOWEST_MIDDLE, LOW_LIMIT, ONLY_SET, RULE,
+};
+use crate::record::Record;
 use crate::style::{BODY_LIMIT, FILE_LIMIT};
 use crate::write::group_bytes;
 use std::collections::HashSet;
@@ -18,13 +27,32 @@ use std::collections::HashSet;
 pub struct Mixture {
     dice: Dice,
     faults: Vec<Fault>,
+    ctb2_faults: Vec<Fault>,
+    beside: Vec<Fault>,
+}
+
+/// The edition of a body's groups, the first where none has records.
+fn edition_of(groups: &[Draft]) -> Edition {
+    let of_second = |group: &Draft| !group.numbers(CTB2).is_empty();
+    if groups.iter().any(of_second) {
+        Edition::Second
+    } else {
+        Edition::First
+    }
 }
 
 impl Mixture {
     pub fn new(dice: Dice) -> Mixture {
         let mut faults = principal();
         faults.extend(further());
-        Mixture { dice, faults }
+        let mut ctb2_faults = ctb2_faults::principal();
+        ctb2_faults.extend(ctb2_faults::further());
+        Mixture {
+            dice,
+            faults,
+            ctb2_faults,
+            beside: ctb2_faults::beside(),
+        }
     }
 
     /// A line of one of these verbs.
@@ -71,9 +99,14 @@ impl Mixture {
         spell(bytes)
     }
 
-    /// A body: sound, with a fault, with names twice, or with changed bytes.
+    /// A body: sound, with a fault, with names twice, or with changed bytes; at times its groups
+    /// are of both editions.
     fn body(&mut self) -> Vec<u8> {
-        let mut groups = sound::body(&mut self.dice);
+        let mut groups = if self.dice.percent(8) {
+            sound::body_of(&mut self.dice, &[Edition::First, Edition::Second])
+        } else {
+            sound::body(&mut self.dice)
+        };
         match self.dice.below(100) {
             0..=44 => (),
             45..=69 => self.put_fault(&mut groups),
@@ -122,16 +155,22 @@ impl Mixture {
         if groups.is_empty() {
             return;
         }
+        let edition = edition_of(groups);
         let number = self.dice.below(groups.len());
         if self.dice.percent(50) {
-            groups[number] = sound::full_group(&mut self.dice, &mut HashSet::new());
+            groups[number] = sound::full_group(&mut self.dice, edition, &mut HashSet::new());
         }
         if groups[number].children.is_empty() {
             return;
         }
-        let fault = self.dice.below(self.faults.len());
+        let faults = match (edition, self.dice.below(10)) {
+            (Edition::First, 0) => &self.beside,
+            (Edition::Second, 0..=6) => &self.ctb2_faults,
+            _ => &self.faults,
+        };
+        let fault = self.dice.below(faults.len());
         let spot = self.dice.below(3);
-        self.faults[fault](&mut groups[number], spot);
+        faults[fault](&mut groups[number], spot);
     }
 
     /// Gives a later group a name of an earlier one, alone or behind its own.
@@ -162,7 +201,7 @@ impl Mixture {
             2 if place < bytes.len() => drop(bytes.remove(place)),
             3 => bytes.extend(&b"CSEG\0\0\0\x09Sdec"[..dice.between(1, 12)]),
             4 => {
-                let tag: &[u8] = dice.pick(&[b"CSEG", b"Sdec", b"Ctab", b"Cntt"]);
+                let tag: &[u8] = dice.pick(&[b"CSEG", b"Sdec", b"Ctab", b"Cntt", b"Ctb2"]);
                 bytes.splice(place..place, tag.iter().copied());
             }
             5 if place + 4 <= bytes.len() => {
@@ -221,9 +260,9 @@ impl Mixture {
         }
         let number = self.dice.below(groups.len());
         let channels = groups[number]
-            .ctabs
+            .records
             .iter()
-            .map(|ctab| ctab.record.source_channel())
+            .map(|placed| placed.record.source_channel())
             .collect();
         (number as u64, channels)
     }
@@ -306,24 +345,32 @@ impl Mixture {
         )
     }
 
-    /// A record that is mostly sound, of any position.
-    fn record(&mut self) -> Record {
+    /// A record of an edition that is mostly sound, of any position.
+    fn record(&mut self, edition: Edition) -> Record {
         let channel = self.dice.below(16) as u8;
-        let mut record = sound::record(&mut self.dice, channel);
+        let mut record = match edition {
+            Edition::First => sound::record(&mut self.dice, channel),
+            Edition::Second => ctb2::record(&mut self.dice, channel),
+        };
         if self.dice.percent(10) {
-            let index = self.dice.below(FIELDS);
-            record.bytes[index] = self.some_value(index);
+            let index = self.dice.below(edition.fields());
+            record[index] = self.some_value(edition, index);
+        }
+        if edition == Edition::Second && self.dice.percent(5) {
+            let set = self.dice.pick(&SETS);
+            record[set + RULE] = self.dice.pick(&[GUITAR, GUITAR, 3, 0xFF]);
         }
         if self.dice.percent(4) {
-            record.second_table = Some(self.dice.byte());
+            record = with_cntt(record, Some(self.dice.byte()));
         }
-        record.position = some_position(&mut self.dice);
-        record
+        at_position(record, some_position(&mut self.dice))
     }
 
-    /// A value at or beside a bound of a byte's range, or any.
-    fn some_value(&mut self, index: usize) -> u8 {
-        let (low, high) = RANGES[index];
+    /// A value at or beside a bound of what may stand at a byte, or any.
+    fn some_value(&mut self, edition: Edition, index: usize) -> u8 {
+        let Allowed::Within(low, high) = allowed(edition, index) else {
+            return self.dice.pick(&TABLE_BOUNDS);
+        };
         let inside = self.dice.between(usize::from(low), usize::from(high)) as u8;
         let values = [
             low,
@@ -337,12 +384,13 @@ impl Mixture {
     }
 
     fn place(&mut self) -> String {
-        let mut record = self.record();
+        let edition = sound::some_edition(&mut self.dice);
+        let mut record = self.record(edition);
         if self.dice.percent(50) {
-            (record.bytes[23], record.bytes[24]) = narrow::limits(&mut self.dice);
+            self.narrow(&mut record);
         }
         let root = self.dice.below(12) as u8;
-        let note = self.dice.below(128) as u8;
+        let note = self.some_note(&record);
         let any = self.dice.byte();
         let (root, note) = match self.dice.below(40) {
             0 => (any, note),
@@ -356,14 +404,43 @@ impl Mixture {
         format!("place {} {root} {note}", rec(&record))
     }
 
+    /// Narrow or crossed limits for each set.
+    fn narrow(&mut self, record: &mut Record) {
+        let sets = match record.edition() {
+            Edition::First => &[ONLY_SET][..],
+            Edition::Second => &SETS,
+        };
+        for set in sets {
+            let (low, high) = narrow::limits(&mut self.dice);
+            record[set + LOW_LIMIT] = low;
+            record[set + HIGH_LIMIT] = high;
+        }
+    }
+
+    /// Any note; for a second-edition record often one at or beside a bound of its middle notes.
+    fn some_note(&mut self, record: &Record) -> u8 {
+        let any = self.dice.below(128) as u8;
+        if record.edition() == Edition::First || self.dice.percent(40) {
+            return any;
+        }
+        let bound = record[self.dice.pick(&[LOWEST_MIDDLE, HIGHEST_MIDDLE])];
+        let near = [bound, bound.saturating_sub(1), bound.saturating_add(1)];
+        self.dice.pick(&near).min(127)
+    }
+
     fn write(&mut self) -> String {
         let count = self.dice.pick(&[0, 1, 1, 2, 2, 3, 3, 4, 5, 9]);
-        let mut records = sound::records(&mut self.dice, count);
+        let edition = sound::some_edition(&mut self.dice);
+        let mut records = sound::records_of(&mut self.dice, edition, count);
         if self.dice.percent(35) && count > 0 {
             let number = self.dice.below(count);
-            records[number] = self.record();
-            let index = self.dice.below(FIELDS);
-            records[number].bytes[index] = self.some_value(index);
+            records[number] = self.record(edition);
+            let index = self.dice.below(edition.fields());
+            records[number][index] = self.some_value(edition, index);
+        }
+        if self.dice.percent(12) && count > 0 {
+            let number = self.dice.below(count);
+            records[number] = self.record(other(edition));
         }
         let names = self.dice.pick(&[1, 1, 1, 2, 3]);
         let mut text = sound::text(&mut self.dice, names, &mut HashSet::new());
@@ -395,7 +472,7 @@ impl Mixture {
             spoil(&mut self.dice, judged);
         }
         for record in beyond {
-            record.position = some_position(&mut self.dice);
+            *record = at_position(*record, some_position(&mut self.dice));
         }
     }
 
@@ -403,19 +480,30 @@ impl Mixture {
         let body = self.asked_body();
         let (number, channels) = self.some_group(&body);
         let channel = self.some_channel(&channels);
-        let mut record = self.record();
+        let groups = read_body(&body).unwrap_or_default();
+        let mut edition = groups
+            .get(number as usize)
+            .and_then(|group| group.edition())
+            .unwrap_or(Edition::First);
+        if self.dice.percent(12) {
+            edition = other(edition);
+        }
+        let mut record = self.record(edition);
         if self.dice.percent(95) {
-            record.bytes[0] = channel;
+            record[0] = channel;
         }
         let body_token = self.spelled(&body);
         format!("edit {body_token} {number} {channel} {}", rec(&record))
     }
 
     fn screen(&mut self) -> String {
-        let record = self.record();
-        let index = self.dice.below(FIELDS);
-        let value = self.some_value(index);
-        let odd = self.dice.pick(&[26, 27, 255, 4_294_967_295]);
+        let edition = sound::some_edition(&mut self.dice);
+        let record = self.record(edition);
+        let index = self.dice.below(edition.fields());
+        let value = self.some_value(edition, index);
+        let odd = self
+            .dice
+            .pick(&[26, 27, 40, 46, 47, 48, 255, 4_294_967_295]);
         let index = if self.dice.percent(5) {
             odd
         } else {

@@ -5,6 +5,12 @@ pub mod asks;
 pub mod bodies;
 pub mod broken;
 pub mod chords;
+pub mod cntts;
+pub mod ctb2;
+pub mod ctb2_bodies;
+pub mod ctb2_faults;
+pub mod ctb2_lines;
+pub mod ctb2_place;
 pub mod dice;
 pub mod draft;
 pub mod edits;
@@ -27,8 +33,10 @@ use spell::{body_line, Line};
 use std::collections::BTreeMap;
 use std::io::{self, Write};
 
-/// Lines sampled from the families for the verbs that do not go through them whole.
+/// Lines sampled from the families for the verbs that do not go through them whole, and from those
+/// of the second edition for all verbs.
 const SAMPLED: usize = 200;
+const CTB2_SAMPLED: usize = 90;
 
 /// The lines of a script, without end.
 pub struct Script {
@@ -120,7 +128,8 @@ fn mixed(first: Vec<Line>, second: Vec<Line>) -> Vec<Line> {
     lines
 }
 
-/// The systematic families: whole for find, body and salvage, sampled for the others.
+/// The systematic families: whole for find, body and salvage, sampled for the others; sampled for
+/// all on a body of the second edition.
 fn families(dice: &mut Dice) -> Vec<(&'static str, Vec<Line>)> {
     let body = families::family_body(dice);
     let changed = families::family(dice, &body);
@@ -139,9 +148,16 @@ fn families(dice: &mut Dice) -> Vec<(&'static str, Vec<Line>)> {
         ("body", lines("body", &changed, "")),
         ("salvage", lines("salvage", &changed, "12")),
     ];
-    let question = questions(&body);
-    for (verb, tokens) in question {
+    for (verb, tokens) in questions(&body) {
         let sampled = families::sample_of(dice, &changed, SAMPLED);
+        list.push((verb, lines(verb, &sampled, &tokens)));
+    }
+    let second = families::ctb2_family_body(dice);
+    let changed = families::family(dice, &second);
+    let mut asked = vec![("body", String::new()), ("salvage", "12".to_string())];
+    asked.extend(questions(&second));
+    for (verb, tokens) in asked {
+        let sampled = families::sample_of(dice, &changed, CTB2_SAMPLED);
         list.push((verb, lines(verb, &sampled, &tokens)));
     }
     list
@@ -150,12 +166,12 @@ fn families(dice: &mut Dice) -> Vec<(&'static str, Vec<Line>)> {
 /// Questions that the unchanged family body accepts.
 fn questions(body: &[u8]) -> Vec<(&'static str, String)> {
     let groups = crate::body::read_body(body).unwrap_or_default();
-    let number = groups.iter().position(|group| !group.ctabs.is_empty());
+    let number = groups.iter().position(|group| !group.records.is_empty());
     let number = number.unwrap_or(0);
-    let record = groups[number].ctabs[0].record;
+    let record = groups[number].records[0].record;
     let channel = record.source_channel();
     let part = spell::spell(groups[number].text);
-    let new = spell::rec(&sound::plain(channel));
+    let new = spell::rec(&ctb2_bodies::plain(record.edition(), channel));
     vec![
         ("group", format!("{number} 2")),
         ("voice", format!("{number} {channel}")),

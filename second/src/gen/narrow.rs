@@ -1,10 +1,10 @@
 //! Limits that are narrower than an octave, or crossed (document 02, §3): for the mixture, and the
 //! `place` lines of the catalogue with them.
 
+use crate::gen::cntts::with_cntt;
 use crate::gen::dice::Dice;
 use crate::gen::records::{place_line, with};
 use crate::gen::spell::Line;
-use crate::record::Record;
 
 /// Low limits at the ends and between, each met by every width that ends at 127 or before.
 const LOWS: [u8; 12] = [0, 1, 5, 6, 24, 35, 60, 67, 90, 110, 116, 121];
@@ -127,10 +127,8 @@ fn bypassed() -> Vec<Line> {
             for note in [0, 8, 11, 54, 66, 71, 127] {
                 let changes = [(18, 7), (20, rule), (21, 0), (23, low), (24, high)];
                 let tabled = with(&changes);
-                let second = Record {
-                    second_table: Some(0x80),
-                    ..with(&[&changes[..], &[(21, 3)]].concat())
-                };
+                let tabled_3 = with(&[&changes[..], &[(21, 3)]].concat());
+                let second = with_cntt(tabled_3, Some(0x80));
                 let record = if note % 2 == 0 { tabled } else { second };
                 lines.push(place_line(&record, 5, note));
             }

@@ -1,6 +1,7 @@
 //! Positions of Cntts (document 02, §1): right ones, the Cntts in Ctab order, by channel, reversed
 //! or shuffled, and every kind of wrong ones; and the `write` lines of the catalogue with them.
 
+use crate::gen::cntts::{at_position, has_cntt, position, with_cntt};
 use crate::gen::dice::Dice;
 use crate::gen::faults::long_text;
 use crate::gen::sound::{record, records, CNTT_VALUES};
@@ -30,7 +31,7 @@ pub const ANY_POSITION: [u8; 14] = [0, 1, 2, 3, 15, 16, 17, 31, 33, 65, 127, 128
 /// Gives right positions: 0 to records without a Cntt, 1 to their number to the others.
 pub fn number(dice: &mut Dice, records: &mut [Record], order: Order) {
     let mut rows: Vec<usize> = (0..records.len())
-        .filter(|&row| records[row].has_cntt())
+        .filter(|&row| has_cntt(&records[row]))
         .collect();
     match order {
         Order::Ctabs => (),
@@ -39,10 +40,10 @@ pub fn number(dice: &mut Dice, records: &mut [Record], order: Order) {
         Order::Shuffled => shuffle(dice, &mut rows),
     }
     for record in records.iter_mut() {
-        record.position = 0;
+        *record = at_position(*record, 0);
     }
     for (position, row) in (1..).zip(rows) {
-        records[row].position = position;
+        records[row] = at_position(records[row], position);
     }
 }
 
@@ -130,45 +131,45 @@ const BARE: [fn(u8) -> u8; 8] = [
 
 /// Wrong positions of a whole table: by the Ctab's number, by the channel, every record numbered.
 const MISREAD: [fn(usize, &Record) -> u8; 5] = [
-    |row, record| record.position.min(1) * (row as u8 + 1),
+    |row, record| position(record).min(1) * (row as u8 + 1),
     |row, _| row as u8 + 1,
-    |_, record| record.position.min(1) * record.bytes[0],
-    |_, record| record.position.min(1) * record.bytes[0].wrapping_add(1),
-    |_, record| record.bytes[0],
+    |_, record| position(record).min(1) * record[0],
+    |_, record| position(record).min(1) * record[0].wrapping_add(1),
+    |_, record| record[0],
 ];
 
 /// How many of the records have a Cntt.
 fn cntts(records: &[Record]) -> u8 {
-    records.iter().filter(|record| record.has_cntt()).count() as u8
+    records.iter().filter(|record| has_cntt(record)).count() as u8
 }
 
 /// Makes right positions wrong in one way, where the records allow it.
 fn moved(records: &mut [Record], change: Moved) {
     let last = cntts(records);
-    for record in records.iter_mut().filter(|record| record.has_cntt()) {
-        record.position = change(record.position, last);
+    for record in records.iter_mut().filter(|record| has_cntt(record)) {
+        *record = at_position(*record, change(position(record), last));
     }
 }
 
 /// Gives a record without a Cntt a position: the first (0), the last (1) or each of them (2).
-fn bare(records: &mut [Record], which: usize, position: fn(u8) -> u8) {
+fn bare(records: &mut [Record], which: usize, wrong: fn(u8) -> u8) {
     let last = cntts(records);
     let mut without: Vec<&mut Record> = records
         .iter_mut()
-        .filter(|record| !record.has_cntt())
+        .filter(|record| !has_cntt(record))
         .collect();
     if which == 1 {
         without.reverse();
     }
     let most = if which == 2 { without.len() } else { 1 };
     for record in without.into_iter().take(most) {
-        record.position = position(last);
+        *record = at_position(*record, wrong(last));
     }
 }
 
 fn misread(records: &mut [Record], change: fn(usize, &Record) -> u8) {
     for (row, record) in records.iter_mut().enumerate() {
-        record.position = change(row, record);
+        *record = at_position(*record, change(row, record));
     }
 }
 
@@ -184,7 +185,7 @@ pub fn spoil(dice: &mut Dice, records: &mut [Record]) {
         _ if records.is_empty() => (),
         _ => {
             let row = dice.below(records.len());
-            records[row].position = some_position(dice);
+            records[row] = at_position(records[row], some_position(dice));
         }
     }
 }
@@ -204,10 +205,9 @@ fn with_cntts(dice: &mut Dice, channels: &[u8], cntts: &[u8]) -> Vec<Record> {
     channels
         .iter()
         .map(|&channel| {
-            let mut record = record(dice, channel);
+            let record = record(dice, channel);
             let value = dice.pick(&CNTT_VALUES);
-            record.second_table = cntts.contains(&channel).then_some(value);
-            record
+            with_cntt(record, cntts.contains(&channel).then_some(value))
         })
         .collect()
 }
@@ -240,7 +240,7 @@ fn right(dice: &mut Dice) -> Vec<Line> {
         [3, 2, 1],
     ] {
         for (record, position) in few.iter_mut().zip(positions) {
-            record.position = position;
+            *record = at_position(*record, position);
         }
         lines.push(whole(&few));
     }
@@ -250,7 +250,7 @@ fn right(dice: &mut Dice) -> Vec<Line> {
         lines.push(whole(&some));
         let mut sixteen = records(dice, 16);
         for record in &mut sixteen {
-            record.second_table = Some(dice.pick(&CNTT_VALUES));
+            *record = with_cntt(*record, Some(dice.pick(&CNTT_VALUES)));
         }
         number(dice, &mut sixteen, order);
         lines.push(whole(&sixteen));
@@ -273,11 +273,11 @@ fn wrong(dice: &mut Dice) -> Vec<Line> {
             lines.push(whole(&table));
         }
     }
-    for (turn, position) in BARE.into_iter().enumerate() {
+    for (turn, wrong) in BARE.into_iter().enumerate() {
         let none = with_cntts(dice, &[6, 2], &[]);
         for mut table in [six(dice), none] {
             number(dice, &mut table, ORDERS[turn % 4]);
-            bare(&mut table, turn % 3, position);
+            bare(&mut table, turn % 3, wrong);
             lines.push(whole(&table));
         }
     }
@@ -298,7 +298,7 @@ fn meetings(dice: &mut Dice) -> Vec<Line> {
     let mut put = |spoilt: usize, position: u8, change: &dyn Fn(&mut [Record])| {
         let mut table = sound.clone();
         number(dice, &mut table, Order::Reversed);
-        table[spoilt].position = position;
+        table[spoilt] = at_position(table[spoilt], position);
         change(&mut table);
         table
     };
@@ -313,12 +313,12 @@ fn meetings(dice: &mut Dice) -> Vec<Line> {
         }
         for row in 0..3 {
             let changed: [Vec<Record>; 3] = [
-                put(spoilt, position, &|table| table[row].bytes[9] = 0),
+                put(spoilt, position, &|table| table[row][9] = 0),
                 put(spoilt, position, &|table| {
-                    table[row].second_table = Some(0x05)
+                    table[row] = with_cntt(table[row], Some(0x05))
                 }),
                 put(spoilt, position, &|table| {
-                    table[row].bytes[0] = table[(row + 1) % 3].bytes[0]
+                    table[row][0] = table[(row + 1) % 3][0]
                 }),
             ];
             for table in changed {
@@ -342,8 +342,8 @@ fn past_the_count(dice: &mut Dice) -> Vec<Line> {
         }
         number(dice, &mut table[..6], order);
         for beyond in [[0, 0], [4, 5], [5, 4], [1, 1], [255, 17]] {
-            table[6].position = beyond[0];
-            table[7].position = beyond[1];
+            table[6] = at_position(table[6], beyond[0]);
+            table[7] = at_position(table[7], beyond[1]);
             for count in [6, 7, 8] {
                 lines.push(write_line(b"Main A", count, 600, &table));
             }

@@ -1,13 +1,17 @@
 //! The catalogue of the verbs on records alone: place, screen and write.
 
+use crate::edition::FIELDS;
 use crate::gen::bodies::seg_text;
+use crate::gen::cntts::{self, at_position};
 use crate::gen::dice::Dice;
 use crate::gen::faults::{further_texts, long_text, principal_texts};
 use crate::gen::narrow;
 use crate::gen::positions::{self, number, number_somehow, some_position, Order, ANY_POSITION};
-use crate::gen::sound::{plain, record, records, CNTT_VALUES};
+use crate::gen::sound::{self, plain, record, records, CNTT_VALUES};
 use crate::gen::spell::{rec, write_line, Line};
-use crate::record::{Record, FIELDS, RANGES};
+use crate::gen::{ctb2_lines, ctb2_place};
+use crate::ranges::RANGES;
+use crate::record::{First, Record};
 use crate::write::group_bytes;
 
 /// Cntt values on both sides of each bound.
@@ -23,25 +27,19 @@ pub fn place_line(record: &Record, root: u8, note: u8) -> Line {
 pub fn with(changes: &[(usize, u8)]) -> Record {
     let mut record = plain(3);
     for &(index, value) in changes {
-        record.bytes[index] = value;
+        record[index] = value;
     }
     record
 }
 
 fn with_cntt(changes: &[(usize, u8)], value: u8) -> Record {
-    let mut record = with(changes);
-    record.second_table = Some(value);
-    record
+    cntts::with_cntt(with(changes), Some(value))
 }
 
 /// Every value at a bound of a byte's range, inside and outside.
 fn bounds(index: usize) -> Vec<u8> {
     let (low, high) = RANGES[index];
-    let mut values = vec![low, high];
-    values.extend(low.checked_sub(1));
-    values.extend(high.checked_add(1));
-    values.push(0xFF);
-    values
+    sound::bounds(low, high)
 }
 
 pub fn place(dice: &mut Dice) -> Vec<Line> {
@@ -55,6 +53,7 @@ pub fn place(dice: &mut Dice) -> Vec<Line> {
         place_line(&plain(3), 0, 128),
     ];
     lines.extend(place_orders());
+    lines.extend(ctb2_place::place());
     lines.extend(place_positions());
     lines.extend(place_tables());
     lines.extend(place_limits());
@@ -121,7 +120,7 @@ fn place_positions() -> Vec<Line> {
             with_cntt(&[(20, 1)], 0x81),
             with_cntt(&[], 0x05),
         ] {
-            lines.push(place_line(&Record { position, ..record }, 4, 60));
+            lines.push(place_line(&at_position(record, position), 4, 60));
         }
     }
     lines
@@ -206,26 +205,27 @@ fn place_keys(dice: &mut Dice) -> Vec<Line> {
     lines
 }
 
+pub fn screen_line(record: &Record, index: u64, value: u8) -> Line {
+    format!("screen {} {index} {value}", rec(record)).into()
+}
+
 pub fn screen(dice: &mut Dice) -> Vec<Line> {
-    let line = |record: &Record, index: u64, value: u8| -> Line {
-        format!("screen {} {index} {value}", rec(record)).into()
-    };
+    let line = screen_line;
     let mut lines = Vec::new();
     for index in [26, 27, 255, 256, 65_536, 4_294_967_295] {
         for value in [0, 255] {
             lines.push(line(&plain(3), index, value));
         }
     }
-    let broken = Record {
+    let broken = Record::First(First {
         bytes: [0xEE; FIELDS],
         second_table: Some(0xEE),
         position: 0xEE,
-    };
+    });
     for (index, &(low, _)) in RANGES[..FIELDS].iter().enumerate() {
         for value in bounds(index) {
             let position = some_position(dice);
-            let record = record(dice, 3);
-            let record = Record { position, ..record };
+            let record = at_position(record(dice, 3), position);
             lines.push(line(&record, index as u64, value));
         }
         lines.push(line(&broken, index as u64, low));
@@ -234,10 +234,11 @@ pub fn screen(dice: &mut Dice) -> Vec<Line> {
     for value in CNTT_BOUNDS {
         lines.push(line(&with_cntt(&[], 0x84), 21, value));
     }
+    lines.extend(ctb2_lines::screen(dice));
     for position in ANY_POSITION {
         for (index, value) in [(0, 7), (21, 4), (21, 6), (25, 5), (26, 0)] {
             for record in [plain(3), with_cntt(&[], 0x84)] {
-                lines.push(line(&Record { position, ..record }, index, value));
+                lines.push(line(&at_position(record, position), index, value));
             }
         }
     }
@@ -256,6 +257,7 @@ pub fn write(dice: &mut Dice) -> Vec<Line> {
     }
     lines.extend(write_texts());
     lines.extend(write_orders());
+    lines.extend(ctb2_lines::write(dice));
     lines.extend(positions::write(dice));
     lines.extend(write_bytes(dice));
     lines.extend(write_counts(dice));
@@ -317,16 +319,18 @@ fn write_bytes(dice: &mut Dice) -> Vec<Line> {
     };
     for (index, &(_, high)) in RANGES[..FIELDS].iter().enumerate() {
         for (turn, value) in bounds(index).into_iter().enumerate() {
-            put(index + turn, &|record| record.bytes[index] = value);
+            put(index + turn, &|record| record[index] = value);
         }
         if let Some(above) = high.checked_add(1) {
             for number in 0..3 {
-                put(number, &|record| record.bytes[index] = above);
+                put(number, &|record| record[index] = above);
             }
         }
     }
     for (turn, value) in CNTT_BOUNDS.into_iter().enumerate() {
-        put(turn, &|record| record.second_table = Some(value));
+        put(turn, &|record| {
+            *record = cntts::with_cntt(*record, Some(value))
+        });
     }
     lines
 }

@@ -1,10 +1,14 @@
 //! Sound things by chance: names, texts, records, groups, bodies and style files, with the
 //! rare but sound settings of "Easy errors" among them.
 
+use crate::edition::{Edition, FIELDS};
+use crate::gen::cntts::with_cntt;
+use crate::gen::ctb2;
 use crate::gen::dice::Dice;
 use crate::gen::draft::{Chunk, Draft, StyleDraft};
 use crate::gen::positions::number_somehow;
-use crate::record::{Record, FIELDS, RANGES};
+use crate::ranges::RANGES;
+use crate::record::{First, Record};
 use std::collections::HashSet;
 
 const PARTS: [&str; 18] = [
@@ -121,14 +125,14 @@ pub fn text_of_length(dice: &mut Dice, length: usize, used: &mut HashSet<Vec<u8>
 
 /// The record that catalogue lines start from: all in range, plays always, no folding.
 pub fn plain(channel: u8) -> Record {
-    Record {
+    Record::First(First {
         bytes: [
             channel, b'P', b'i', b'a', b'n', b'o', b' ', b' ', b' ', 0x0B, 0, 0x0F, 0xFF, 0x03,
             0xFF, 0xFF, 0xFF, 0xFF, 0, 2, 0, 1, 11, 0, 127, 3,
         ],
         second_table: None,
         position: 0,
-    }
+    })
 }
 
 /// A sound record by chance; its position is right where it is alone.
@@ -143,7 +147,9 @@ pub fn record(dice: &mut Dice, channel: u8) -> Record {
         bytes[1..9].copy_from_slice(dice.pick(&VOICES));
     }
     masks(dice, &mut bytes);
-    limits(dice, &mut bytes);
+    if let Some((low, high)) = some_limits(dice) {
+        bytes[23..25].copy_from_slice(&[low, high]);
+    }
     if dice.percent(60) {
         bytes[20] = 0;
     }
@@ -152,11 +158,11 @@ pub fn record(dice: &mut Dice, channel: u8) -> Record {
     } else {
         None
     };
-    Record {
+    Record::First(First {
         bytes,
         second_table,
         position: u8::from(second_table.is_some()),
-    }
+    })
 }
 
 /// Full, empty, nearly empty, one that spells CSEG, or by chance as it stands.
@@ -180,8 +186,8 @@ fn two_types(dice: &mut Dice) -> [u8; 5] {
     [bytes[3], bytes[4], bytes[5], bytes[6], bytes[7]]
 }
 
-/// Wide, narrow, one key, crossed, or by chance as they stand.
-fn limits(dice: &mut Dice, bytes: &mut [u8; FIELDS]) {
+/// Limits that are wide, narrow, of one key or crossed; none to leave them as they stand.
+pub fn some_limits(dice: &mut Dice) -> Option<(u8, u8)> {
     let low = dice.below(128);
     let (low, high) = match dice.below(10) {
         0 | 1 => (0, 127),
@@ -190,10 +196,18 @@ fn limits(dice: &mut Dice, bytes: &mut [u8; FIELDS]) {
         5 => (low, low),
         6 => (127, 127),
         7 => (low, low.saturating_sub(dice.between(1, 20))),
-        _ => return,
+        _ => return None,
     };
-    bytes[23] = low as u8;
-    bytes[24] = high as u8;
+    Some((low as u8, high as u8))
+}
+
+/// Every value at a bound of a range, inside and outside.
+pub fn bounds(low: u8, high: u8) -> Vec<u8> {
+    let mut values = vec![low, high];
+    values.extend(low.checked_sub(1));
+    values.extend(high.checked_add(1));
+    values.push(0xFF);
+    values
 }
 
 /// So many records of different source channels, at times all with a Cntt; these in some order.
@@ -207,35 +221,52 @@ pub fn records(dice: &mut Dice, count: usize) -> Vec<Record> {
         .collect();
     if dice.percent(30) {
         for record in &mut list {
-            record.second_table = Some(dice.pick(&CNTT_VALUES));
+            *record = with_cntt(*record, Some(dice.pick(&CNTT_VALUES)));
         }
     }
     number_somehow(dice, &mut list);
     list
 }
 
-/// A group that every fault finds a spot in: three Ctabs or more, three Cntts or more, these in
-/// some order.
-pub fn full_group(dice: &mut Dice, used: &mut HashSet<Vec<u8>>) -> Draft {
+/// So many records of an edition.
+pub fn records_of(dice: &mut Dice, edition: Edition, count: usize) -> Vec<Record> {
+    match edition {
+        Edition::First => records(dice, count),
+        Edition::Second => ctb2::records(dice, count),
+    }
+}
+
+/// An edition: more often the first.
+pub fn some_edition(dice: &mut Dice) -> Edition {
+    if dice.percent(36) {
+        Edition::Second
+    } else {
+        Edition::First
+    }
+}
+
+/// A group that every fault finds a spot in: three Ctabs and three Cntts, these in some order, or
+/// three Ctb2s.
+pub fn full_group(dice: &mut Dice, edition: Edition, used: &mut HashSet<Vec<u8>>) -> Draft {
     let names = dice.between(1, 2);
     let text = text(dice, names, used);
-    let mut records = records(dice, 3);
+    let mut records = records_of(dice, edition, 3);
     for record in &mut records {
-        record.second_table = Some(dice.pick(&CNTT_VALUES));
+        *record = with_cntt(*record, Some(dice.pick(&CNTT_VALUES)));
     }
     number_somehow(dice, &mut records);
     Draft::new(&text, &records)
 }
 
-/// A small group beside a faulty one: at most one Ctab.
-pub fn small_group(dice: &mut Dice, used: &mut HashSet<Vec<u8>>) -> Draft {
+/// A small group beside a faulty one: at most one record.
+pub fn small_group(dice: &mut Dice, edition: Edition, used: &mut HashSet<Vec<u8>>) -> Draft {
     let text = text(dice, 1, used);
     let count = dice.below(2);
-    Draft::new(&text, &records(dice, count))
+    Draft::new(&text, &records_of(dice, edition, count))
 }
 
 /// A group of the mixture.
-pub fn group(dice: &mut Dice, used: &mut HashSet<Vec<u8>>) -> Draft {
+pub fn group(dice: &mut Dice, edition: Edition, used: &mut HashSet<Vec<u8>>) -> Draft {
     let count = match dice.below(50) {
         0 => dice.between(4, 16),
         1..=12 => 0,
@@ -255,11 +286,17 @@ pub fn group(dice: &mut Dice, used: &mut HashSet<Vec<u8>>) -> Draft {
     } else {
         text(dice, names, used)
     };
-    Draft::new(&text, &records(dice, count))
+    Draft::new(&text, &records_of(dice, edition, count))
 }
 
-/// A body of the mixture.
+/// A body of the mixture, of one edition.
 pub fn body(dice: &mut Dice) -> Vec<Draft> {
+    let edition = some_edition(dice);
+    body_of(dice, &[edition])
+}
+
+/// A body of the mixture, each group of one of these editions.
+pub fn body_of(dice: &mut Dice, editions: &[Edition]) -> Vec<Draft> {
     let mut used = HashSet::new();
     let count = match dice.below(200) {
         0 => dice.between(30, 33),
@@ -269,10 +306,16 @@ pub fn body(dice: &mut Dice) -> Vec<Draft> {
         91..=150 => 2,
         _ => 3,
     };
-    if count > 9 {
-        return (0..count).map(|_| small_group(dice, &mut used)).collect();
-    }
-    (0..count).map(|_| group(dice, &mut used)).collect()
+    (0..count)
+        .map(|_| {
+            let edition = dice.pick(editions);
+            if count > 9 {
+                small_group(dice, edition, &mut used)
+            } else {
+                group(dice, edition, &mut used)
+            }
+        })
+        .collect()
 }
 
 const SECTION_TAGS: [[u8; 4]; 9] = [

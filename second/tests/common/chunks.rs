@@ -31,7 +31,7 @@ pub fn chunks(bytes: &[u8], from: usize, to: usize) -> Vec<Chunk<'_>> {
     list
 }
 
-/// The groups of a body, each with its children: an Sdec, Ctabs and Cntts.
+/// The groups of a body, each with its children: an Sdec, Ctabs and Cntts, or an Sdec and Ctb2s.
 pub fn groups(body: &[u8]) -> Vec<(Chunk<'_>, Vec<Chunk<'_>>)> {
     chunks(body, 0, body.len())
         .into_iter()
@@ -45,6 +45,21 @@ pub fn groups(body: &[u8]) -> Vec<(Chunk<'_>, Vec<Chunk<'_>>)> {
 /// The children of a tag.
 pub fn of_tag<'a, 'b>(children: &'b [Chunk<'a>], tag: &[u8]) -> Vec<&'b Chunk<'a>> {
     children.iter().filter(|child| child.tag == tag).collect()
+}
+
+/// The children that are records: Ctabs, or Ctb2s.
+pub fn records<'a, 'b>(children: &'b [Chunk<'a>]) -> Vec<&'b Chunk<'a>> {
+    let is_record = |child: &&Chunk| child.tag == b"Ctab" || child.tag == b"Ctb2";
+    children.iter().filter(is_record).collect()
+}
+
+/// The edition of a group's records, 0 for a group without any.
+pub fn edition(children: &[Chunk]) -> usize {
+    match records(children).first() {
+        None => 0,
+        Some(record) if record.tag == b"Ctab" => 1,
+        Some(_) => 2,
+    }
 }
 
 /// The names of a group's Sdec.

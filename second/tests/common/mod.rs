@@ -5,7 +5,8 @@ pub mod chunks;
 pub mod note_kinds;
 pub mod place_kinds;
 
-use second::record::Record;
+use second::gen::cntts::at_position;
+use second::record::{First, Record};
 use second::refusal::Refusal;
 use second::salvage::{salvage, Entry};
 
@@ -32,14 +33,27 @@ pub fn n() -> Vec<u8> {
 
 /// A sound record of source channel 3 that plays for every root and type.
 pub fn plain_record() -> Record {
-    Record {
+    Record::First(First {
         bytes: [
             3, b'P', b'i', b'a', b'n', b'o', b' ', b' ', b' ', 0x0B, 0, 0x0F, 0xFF, 0x03, 0xFF,
             0xFF, 0xFF, 0xFF, 0, 2, 0, 1, 11, 0, 127, 3,
         ],
         second_table: None,
         position: 0,
-    }
+    })
+}
+
+/// A sound second-edition record of source channel 3 that plays for every root and type: middle
+/// notes 48 to 72, three sets that differ in their limits, and the usual tail of 000, 4.6.3.7.
+pub fn second_record() -> Record {
+    let mut bytes = [0; 47];
+    bytes[..20].copy_from_slice(&plain_record()[..20]);
+    bytes[20..22].copy_from_slice(&[48, 72]);
+    bytes[22..28].copy_from_slice(&[0, 1, 11, 0, 59, 3]);
+    bytes[28..34].copy_from_slice(&[0, 2, 11, 0, 127, 3]);
+    bytes[34..40].copy_from_slice(&[0, 0x83, 11, 72, 127, 3]);
+    bytes[40..].copy_from_slice(&[0, 0, 0, 0, 0x80, 0, 0]);
+    Record::Second(bytes)
 }
 
 /// Gives these positions to the records, one after another.
@@ -47,7 +61,7 @@ pub fn at_positions(records: &[Record], positions: &[u8]) -> Vec<Record> {
     assert_eq!(records.len(), positions.len());
     let pairs = records.iter().zip(positions);
     pairs
-        .map(|(&record, &position)| Record { position, ..record })
+        .map(|(&record, &position)| at_position(record, position))
         .collect()
 }
 

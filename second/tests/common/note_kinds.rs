@@ -15,16 +15,17 @@ pub struct Asked {
 impl Asked {
     pub fn of(words: &[&[u8]]) -> Asked {
         let given = record(words[1]).unwrap();
-        let field = |index: usize| i32::from(given.bytes[index]);
         let root = number(words[2]).unwrap() as i32;
         let note = number(words[3]).unwrap() as i32;
-        let bypass = bypass(&given);
-        let above = if root > field(22) { 12 } else { 0 };
+        let set = set_of(&given, note);
+        let field = |index: usize| i32::from(given[index]);
+        let bypass = bypass(&given, set);
+        let above = if root > field(set + 2) { 12 } else { 0 };
         let shift = root - field(18) - above;
         Asked {
             value: if bypass.is_some() { note } else { note + shift },
-            low: field(23),
-            high: field(24),
+            low: field(set + 3),
+            high: field(set + 4),
             bypass,
         }
     }
@@ -51,14 +52,28 @@ impl Asked {
     }
 }
 
-/// By what a record is bypass, and under which rule.
-fn bypass(given: &Record) -> Option<String> {
-    let by = match given.second_table {
-        None if given.bytes[21] == 0 => "table 00",
-        Some(0x80) => "Cntt 80",
+/// Where the set of a note begins.
+pub fn set_of(given: &Record, note: i32) -> usize {
+    match given {
+        Record::First(_) => 20,
+        Record::Second(bytes) => match note {
+            _ if note < i32::from(bytes[20]) => 22,
+            _ if note > i32::from(bytes[21]) => 34,
+            _ => 28,
+        },
+    }
+}
+
+/// By what a record's set is bypass, and under which rule.
+fn bypass(given: &Record, set: usize) -> Option<String> {
+    let by = match (given, given.second_table()) {
+        (Record::First(_), None) if given[set + 1] == 0 => "table 00",
+        (Record::First(_), Some(0x80)) => "Cntt 80",
+        (Record::Second(_), _) if given[set + 1] == 0 => "a set's table 00",
+        (Record::Second(_), _) if given[set + 1] == 0x80 => "a set's table 80",
         _ => return None,
     };
-    Some(format!("bypass by {by}, rule {}", given.bytes[20]))
+    Some(format!("bypass by {by}, rule {}", given[set]))
 }
 
 /// The kinds that do not speak of the nearest octave alone.
@@ -72,7 +87,7 @@ pub const OF_ALL: [&str; 6] = [
 ];
 
 /// The kinds of answers where no octave lies within both limits.
-pub const OF_NEAREST: [&str; 25] = [
+pub const OF_NEAREST: [&str; 29] = [
     "below both limits",
     "above both limits",
     "between crossed limits",
@@ -98,6 +113,10 @@ pub const OF_NEAREST: [&str; 25] = [
     "bypass by table 00, rule 1",
     "bypass by Cntt 80, rule 0",
     "bypass by Cntt 80, rule 1",
+    "bypass by a set's table 00, rule 0",
+    "bypass by a set's table 00, rule 1",
+    "bypass by a set's table 80, rule 0",
+    "bypass by a set's table 80, rule 1",
 ];
 
 /// The kinds of a line that is not bad.

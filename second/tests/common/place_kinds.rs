@@ -72,13 +72,14 @@ fn group_kind(body: &[u8], number: u8, at: usize) -> &'static str {
         6 => "group empty",
         12 => "33rd group",
         13 => "name of an earlier group",
+        21 => "another edition",
         _ => panic!("{number} at a group's tag"),
     }
 }
 
 /// The name of a tag, or `other`.
 fn tag_name(bytes: &[u8]) -> &'static str {
-    ["CSEG", "Sdec", "Ctab", "Cntt"]
+    ["CSEG", "Sdec", "Ctab", "Cntt", "Ctb2"]
         .into_iter()
         .find(|tag| tag.as_bytes() == &bytes[..4])
         .unwrap_or("other")
@@ -101,7 +102,7 @@ fn child_kind(group: &[u8], number: u8, at: usize, place: usize) -> String {
     let tag = tag_name(&group[child..]);
     if place != child {
         assert_eq!(number, 9);
-        return byte_kind(tag, place - child - 8, group[place]);
+        return byte_kind(tag, place - child - 8, group[place], group[place - 1]);
     }
     match number {
         2 => format!("{tag} past the group"),
@@ -112,9 +113,18 @@ fn child_kind(group: &[u8], number: u8, at: usize, place: usize) -> String {
     }
 }
 
-/// Refusal 9: which byte, and on which side of its range.
-fn byte_kind(tag: &str, index: usize, value: u8) -> String {
+/// Refusal 9: which byte, and on which side of its range; of a Ctb2's tables under which rule, and
+/// whether another rule would allow it.
+fn byte_kind(tag: &str, index: usize, value: u8, before: u8) -> String {
     match (tag, index) {
+        ("Ctb2", 9) if value < 8 => "Ctb2 byte 9 below".to_string(),
+        ("Ctb2", 23 | 29 | 35) => {
+            let elsewhere = value & 0x7F <= 0x0A;
+            let bass = if value < 0x80 { "" } else { ", bass" };
+            let only = if elsewhere { " alone" } else { "" };
+            format!("Ctb2 byte {index}, rule {before}{only}{bass}")
+        }
+        ("Ctb2", _) => format!("Ctb2 byte {index} above"),
         ("Ctab", 9) if value < 8 => "Ctab byte 9 below".to_string(),
         ("Ctab", _) => format!("Ctab byte {index} above"),
         ("Cntt", 0) => "Cntt channel above".to_string(),
@@ -154,7 +164,7 @@ fn channel_kind(number: u8, children: &[&[u8]], tag: &str, channel: u8) -> Strin
     };
     let (ctabs, cntts) = (of("Ctab"), of("Cntt"));
     match (number, tag) {
-        (10, "Ctab") => "Ctab".to_string(),
+        (10, "Ctab" | "Ctb2") => tag.to_string(),
         (10, "Cntt") if cntts.last() == Some(&channel) => "Cntt behind its first".to_string(),
         (10, "Cntt") if cntts.contains(&channel) => "Cntt behind others".to_string(),
         (11, "Cntt") if ctabs.is_empty() => "no Ctab at all".to_string(),

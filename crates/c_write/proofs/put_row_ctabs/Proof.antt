@@ -2,26 +2,34 @@
 use Prim.Native.Nat.{_-_}
 use Rattle.write_chunks.proofs.Putting.{Putting, putting-end, ctabs, ctabs-start}
 use Rattle.c_row.specs.Flat.{tableOf}
-use Rattle.c_write.proofs.Taking.{taking-next, row-there}
+use Rattle.c_write.proofs.Taking.{taking-on, taking-next, row-there}
 use borrow.Author.Needs.{needs}
 use Rattle.c_write.proofs.put_row_ctabs.Statement.{statement}
 use Rattle.c_write.proofs.put_row_ctabs.Tie as tie
 
 abbrev Inv-loop : tie.InvT-loop
-Inv-loop flat n out₀ at i₀ out i = Putting (ctabs (tableOf flat)) out₀ at n out i
+Inv-loop edition flat n out₀ at i₀ out i = Putting (ctabs (tableOf flat)) out₀ at n out i
 
 abbrev μ-loop : tie.MeasureT-loop
-μ-loop flat n out₀ at i₀ out i = n - i
+μ-loop edition flat n out₀ at i₀ out i = n - i
 
 loop-holds : tie.Need-loop-holds Inv-loop μ-loop
-loop-holds c = ctabs-start _ _ _ _
+loop-holds c = ctabs-start _ (c .before .before .args .edition) _ _ _
+
+put-row-ctab-requires : tie.Need-put-row-ctab-requires Inv-loop μ-loop
+put-row-ctab-requires c κs =
+    let l = c .before .before .before in
+    let start = l .before .before .before in
+    let p = start .pre in
+    (search needs, taking-on _ _ (start .args .edition) _ _ (p .0) (p .1 .0) (p .1 .1) _ _ (l .loop .inv) (search needs) _ (row-there (start .args .flat .now) (l .loop .i)))
 
 loop-again : tie.Need-loop-again Inv-loop μ-loop
 loop-again c =
-    let p = c .before .before in
-    let l = p .before .before .before .before in
+    let put = c .before .before in
+    let l = put .before .before .before .before in
     let start = l .before .before .before in
-    taking-next _ _ _ _ (start .pre .0) (start .pre .1) _ _ (l .loop .inv) (search needs) _ _ (row-there (start .args .flat .now) (l .loop .i)) (p .put-row-ctab .ensures)
+    let p = start .pre in
+    taking-next _ _ (start .args .edition) _ _ (p .0) (p .1 .0) (p .1 .1) _ _ (l .loop .inv) (search needs) _ (row-there (start .args .flat .now) (l .loop .i)) _ (put .put-row-ctab .ensures)
 
 returns : tie.Need-returns Inv-loop μ-loop
 returns c = putting-end _ _ _ _ _ _ (c .before .loop .inv) (search needs)
@@ -38,7 +46,7 @@ put-row-ctabs-spec =
     (λ c. search needs)
     (λ c. search needs)
     (λ c. search needs)
-    (λ c κs. search needs)
+    put-row-ctab-requires
     (λ c. search needs)
     (λ c. search needs)
     loop-again

@@ -18,7 +18,7 @@ put-row-ctabs-requires c κs =
     let a = p .before .before .before .before .args in
     let e = p .plan-rows .ensures in
     let room = ctabs-fit (a .text .now) (a .flat .now) (a .out .now) (a .count) _ e (s .put-frame .last .0) _ (s .put-frame .ensures .0) (s .put-frame .kept .0) in
-    (lent (a .text .now) (a .flat .now) (a .out .now) (a .count) _ e, omega (arith, room))
+    (lent (a .text .now) (a .flat .now) (a .out .now) (a .count) _ e, (fits (a .text .now) (a .flat .now) (a .out .now) (a .count) _ e .editions, omega (arith, room)))
 
 returns : tie.Need-returns
 returns c =

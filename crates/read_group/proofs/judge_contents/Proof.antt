@@ -1,9 +1,11 @@
--- The contents in their order: the Sdec's header, its text, the Ctabs, the Cntts; one law for each way out.
+-- The contents in their order: the Sdec's header, its text, the Ctabs of the edition that stands there, and what is behind them; one law for each way out.
+use Prim.Native.Nat.{_+_, _≤_}
 use mathlib.Core.Path.{sym, _∙_}
 use native.Mathlib.Omega.{arith}
+use lib.ListN.{length}
 use borrow.Author.Tests.{not-true, not-false}
 use Rattle.layout.proofs.Heads.{head-within}
-use Rattle.layout.proofs.Groups.{contents-head, contents-text, contents-stopped, contents-halted, contents-sound}
+use Rattle.layout.proofs.Groups.{contents-head, contents-text, contents-stopped, contents-ended}
 use borrow.Author.Needs.{needs}
 use Rattle.read_group.proofs.judge_contents.Statement.{statement}
 use Rattle.read_group.proofs.judge_contents.Tie as tie
@@ -22,36 +24,34 @@ returns-2 c =
     let d = c .before .before .before in
     sym (contents-text _ _ (d .before .before .head-fault .ensures) (d .before .if1 .left) _ (d .word-at .ensures .0) (sym (c .before .is-sound-text .ensures) ∙ not-true _ (c .if2 .taken)))
 
-read-ctabs-requires : tie.Need-read-ctabs-requires
-read-ctabs-requires c κs =
+-- the text ends within the contents
+fits : (c : tie.Else2) → let d = c .before .before .before in 8 + d .word-at .result ≤ length (d .before .before .before .before .args .c .now)
+fits c =
     let d = c .before .before .before in
     omega (arith, head-within _ _ _ _ (d .before .before .head-fault .ensures) (d .before .if1 .left), d .word-at .ensures .0)
 
-read-cntts-requires : tie.Need-read-cntts-requires
-read-cntts-requires c κs = c .before .before .before .before .before .read-ctabs .ensures .seen _ (c .before .before .run2 .given .1)
+judge-behind-requires : tie.Need-judge-behind-requires
+judge-behind-requires c κs =
+    let r = c .before .before in
+    r .before .before .before .read-ctabs .ensures .seen _ (r .run2 .given .1)
 
 returns-3 : tie.Need-returns-3
 returns-3 c =
     let r = c .before .before .before .before in
-    let d = r .before .before .before .before in
-    let sound = sym (r .before .before .is-sound-text .ensures) ∙ not-false _ (r .before .if2 .left) in
-    sym (contents-stopped _ _ (d .before .before .head-fault .ensures) (d .before .if1 .left) _ (d .word-at .ensures .0) sound _ _ (sym (r .read-ctabs .ensures .run) ∙ c .before .run .given .1))
+    let e = r .before in
+    let d = e .before .before .before .before in
+    let sound = sym (e .before .before .is-sound-text .ensures) ∙ not-false _ (e .before .if2 .left) in
+    sym (contents-stopped _ _ (d .before .before .head-fault .ensures) (d .before .if1 .left) _ (d .word-at .ensures .0) sound _ (e .edition-at .ensures) _ _ (sym (r .read-ctabs .ensures .run) ∙ c .before .run .given .1))
 
 returns-4 : tie.Need-returns-4
 returns-4 c =
     let h = c .before .before .before in
-    let r = h .before .before .before .before .before .before in
-    let d = r .before .before .before .before in
-    let sound = sym (r .before .before .is-sound-text .ensures) ∙ not-false _ (r .before .if2 .left) in
-    sym (contents-halted _ _ (d .before .before .head-fault .ensures) (d .before .if1 .left) _ (d .word-at .ensures .0) sound _ (sym (r .read-ctabs .ensures .run) ∙ h .before .before .before .run2 .given .1) _ _ (sym (h .read-cntts .ensures) ∙ c .before .number .given .1))
-
-returns-5 : tie.Need-returns-5
-returns-5 c =
-    let h = c .before .before .before in
-    let r = h .before .before .before .before .before .before in
-    let d = r .before .before .before .before in
-    let sound = sym (r .before .before .is-sound-text .ensures) ∙ not-false _ (r .before .if2 .left) in
-    sym (contents-sound _ _ (d .before .before .head-fault .ensures) (d .before .if1 .left) _ (d .word-at .ensures .0) sound _ (sym (r .read-ctabs .ensures .run) ∙ h .before .before .before .run2 .given .1) _ (sym (h .read-cntts .ensures) ∙ c .before .m .given .1))
+    let r = h .before .before .before in
+    let e = r .before in
+    let d = e .before .before .before .before in
+    let sound = sym (e .before .before .is-sound-text .ensures) ∙ not-false _ (e .before .if2 .left) in
+    c .judge-behind .ensures
+    ∙ sym (contents-ended _ _ (d .before .before .head-fault .ensures) (d .before .if1 .left) _ (d .word-at .ensures .0) sound _ (e .edition-at .ensures) _ (sym (r .read-ctabs .ensures .run) ∙ h .run2 .given .1))
 
 pub judge-contents-spec : {M : Type 1} → statement M
 judge-contents-spec =
@@ -66,12 +66,10 @@ judge-contents-spec =
     part-is-sound-text-end
     (λ c κs. search needs)
     returns-2
-    read-ctabs-requires
+    (λ c κs. fits c)
+    (λ c κs. fits (c .before))
     (λ c. search needs)
     (λ c. search needs)
-    read-cntts-requires
-    (λ c. search needs)
-    (λ c. search needs)
+    judge-behind-requires
     returns-3
-    returns-4
-    returns-5)
+    returns-4)

@@ -1,27 +1,30 @@
--- The table of the edition that the match found.
+-- The table of the edition that the match found, over as many bytes as it has.
+use Prim.Native.Nat.{ℕ, _+_, _≤_}
+use mathlib.Core.Path.{_≡_, subst}
+use native.Mathlib.Omega.{arith}
+use Rattle.layout.specs.declared.edition.Edition.{Edition}
 use Rattle.layout.specs.declared.edition.Edition.the-variants.{First, Second}
-use Rattle.layout.proofs.Outs.{first-judged}
-use Rattle.layout.proofs.Editions.{most-of}
+use Rattle.layout.specs.Editions.{size}
 use borrow.Author.Needs.{needs}
 use Rattle.read_ranges.proofs.first_out.Statement.{statement}
 use Rattle.read_ranges.proofs.first_out.Tie as tie
 
-enum-told : tie.Need-enum-told
-enum-told c = search needs
+within : (e f : Edition) (at n : ℕ) → e ≡ f → at + size e ≤ n → at + size f ≤ n
+within e f at n h l = subst (λ (x : Edition). at + size x ≤ n) h l
 
 first-out-ctab-requires : tie.Need-first-out-ctab-requires
-first-out-ctab-requires c κs = (most-of _ First _ (c .enum-told .given .1) (c .before .before .before .pre .0), c .before .before .before .pre .1)
+first-out-ctab-requires c κs = (omega arith, within _ First _ _ (c .enum-told .given .1) (c .before .before .before .pre))
 
 first-out-ctb2-requires : tie.Need-first-out-ctb2-requires
-first-out-ctb2-requires c κs = (most-of _ Second _ (c .enum-told2 .given .1) (c .before .before .before .pre .0), c .before .before .before .pre .1)
+first-out-ctb2-requires c κs = (omega arith, within _ Second _ _ (c .enum-told2 .given .1) (c .before .before .before .pre))
 
 returns : tie.Need-returns
-returns c = first-judged _ _ _ _ _ _ (c .before .enum-told .given .1) (c .first-out-ctab .ensures)
+returns c = rw (c .before .enum-told .given .1) (c .first-out-ctab .ensures)
 
 returns-2 : tie.Need-returns-2
-returns-2 c = first-judged _ _ _ _ _ _ (c .before .enum-told2 .given .1) (c .first-out-ctb2 .ensures)
+returns-2 c = rw (c .before .enum-told2 .given .1) (c .first-out-ctb2 .ensures)
 
 pub first-out-spec : {M : Type 1} → statement M
 first-out-spec =
     tie.close
-    (tie.spec enum-told first-out-ctab-requires (λ c. search needs) first-out-ctb2-requires returns returns-2)
+    (tie.spec (λ c. search needs) first-out-ctab-requires (λ c. search needs) first-out-ctb2-requires returns returns-2)

@@ -9,7 +9,7 @@ use Rattle.write_edit.proofs.edit_record.Tie as tie
 edit-at-requires : tie.Need-edit-at-requires
 edit-at-requires c κs =
     let a = c .before .before in
-    record-within _ _ _ _ _ (sym (a .before .before .find-record .ensures) ∙ a .at .given .1)
+    record-within _ _ _ _ _ _ (sym (a .before .before .find-record .ensures) ∙ a .edition .given .1)
 
 returns : tie.Need-returns
 returns c =
@@ -20,7 +20,7 @@ returns-2 : tie.Need-returns-2
 returns-2 c =
     let e = c .before .before in
     let a = e .before .before .before in
-    edit-there _ _ _ _ _ _ _ _ (sym (a .before .before .find-record .ensures) ∙ a .at .given .1) (e .edit-at .ensures)
+    edit-there _ _ _ _ _ _ _ _ _ (sym (a .before .before .find-record .ensures) ∙ a .edition .given .1) (e .edit-at .ensures)
 
 pub edit-record-spec : {M : Type 1} → statement M
 edit-record-spec =

@@ -1,44 +1,77 @@
-use mathlib.Core.Path.{sym, _∙_, ap}
+-- One law for each way out.
+use mathlib.Core.Path.{sym, ap, _∙_}
 use native.Mathlib.Omega.{arith}
-use lib.ListN.{length, length-set}
-use Rattle.layout.specs.declared.record.Record.{Record}
-use Rattle.layout.proofs.Records.{bytes-length}
-use Rattle.write_field.proofs.Setting.{set-over, set-out, set-in}
+use lib.ListN.{length}
+use Rattle.layout.proofs.Editions.{held-spare, held-size}
+use Rattle.layout.proofs.Records.{laid-length}
+use Rattle.write_field.proofs.Setting.{set-within, front-length, front-held, set-over, set-out, set-in}
 use borrow.Author.Needs.{needs}
 use Rattle.write_field.proofs.set_field.Statement.{statement}
 use Rattle.write_field.proofs.set_field.Tie as tie
 
 returns : tie.Need-returns
-returns c = sym (set-over _ _ _ (c .if1 .taken))
+returns c = set-over _ _ _ _ (c .before .before .edition-of .ensures) (omega (arith, c .before .held-of .ensures))
+
+rule-before-requires : tie.Need-rule-before-requires
+rule-before-requires c κs =
+    let end = c .before .before .before in
+    omega (arith, ap length (c .before .bytes-of .ensures), laid-length (end .before .before .args .r), held-spare (end .before .edition-of .result), end .held-of .ensures)
+
+is-out-requires : tie.Need-is-out-requires
+is-out-requires c κs =
+    let end = c .before .before .before .before in
+    omega (arith, held-size (end .before .edition-of .result), end .held-of .ensures)
 
 returns-2 : tie.Need-returns-2
 returns-2 c =
-    let a = c .before .before .before .before .args in
-    sym (set-out (a .r) (a .index) (a .value) (omega arith) (sym (rw (c .before .before .edition-of .ensures) at (c .before .is-out .ensures)) ∙ c .if2 .taken))
+    let end = c .before .before .before .before .before .before in
+    set-out _ _ _ _ (end .before .edition-of .ensures) (omega (arith, end .held-of .ensures)) _ (c .before .before .before .before .bytes-of .ensures) _ (c .before .before .rule-before .ensures)
+    (sym (c .if2 .taken) ∙ c .before .is-out .ensures)
+
+array-write-b : tie.Need-array-write-b
+array-write-b c =
+    let end = c .before .before .before .before .before .before .before .before in
+    omega (arith, held-spare (end .before .edition-of .result), end .held-of .ensures)
+
+array-share-prefix-b : tie.Need-array-share-prefix-b
+array-share-prefix-b c =
+    let end = c .before .before .before .before .before .before .before .before in
+    set-within (end .before .before .args .r) _ _ _ _ (end .before .edition-of .result) (c .before .before .before .before .before .before .bytes-of .ensures) (end .held-of .ensures)
+
+slice-aggregate-record-of : tie.Need-slice-aggregate-record-of
+slice-aggregate-record-of c =
+    let end = c .before .before .before .before .before .before .before .before .before in
+    front-length (end .before .before .args .r) _ _ _ _ (end .before .edition-of .result) (c .before .before .before .before .before .before .before .bytes-of .ensures) (end .held-of .ensures)
 
 record-of-requires : tie.Need-record-of-requires
 record-of-requires c κs =
-    let a = c .before .before .before .before .before .before .args in
-    let b = c .before .bytes-of .result in
-    omega (arith, length-set b (a .index) (a .value), ap length (c .before .bytes-of .ensures), bytes-length (a .r))
+    let end = c .before .before .before .before .before .before .before .before .before in
+    front-held (end .before .before .args .r) _ _ _ _ (end .before .edition-of .result) (c .before .before .before .before .before .before .before .bytes-of .ensures) (end .held-of .ensures)
 
 returns-3 : tie.Need-returns-3
 returns-3 c =
-    let a = c .before .before .before .before .before .before .before .args in
-    let f = c .before .before .before in
-    ap (λ (held : Record). record { number = 0; place = 0; held = held }) (c .record-of .ensures)
-    ∙ sym (set-in (a .r) (a .index) (a .value) (omega arith) (c .before .before .bytes-of .result) (sym (rw (f .before .before .edition-of .ensures) at (f .before .is-out .ensures)) ∙ f .if2 .left) (c .before .before .bytes-of .ensures))
+    let out = c .before .before .before .before .before in
+    let bytes = out .before .before .before in
+    let end = bytes .before .before in
+    set-in _ _ _ _ (end .before .edition-of .ensures) (omega (arith, end .held-of .ensures)) _ (bytes .bytes-of .ensures) _ (out .before .rule-before .ensures) (sym (c .before .before .before .before .if2 .left) ∙ out .is-out .ensures)
+    _ (c .before .before .before .second-of .ensures) _ (c .before .before .position-of .ensures) _ (end .held-of .ensures) _ (c .record-of .ensures)
 
 pub set-field-spec : {M : Type 1} → statement M
 set-field-spec =
     tie.close
     (tie.spec
+    (λ c κs. search needs)
+    (λ c κs. search needs)
     returns
     (λ c κs. search needs)
-    (λ c κs. rw (c .edition-of .ensures) (omega arith))
+    (λ c. search needs)
+    rule-before-requires
+    is-out-requires
     returns-2
     (λ c κs. search needs)
-    (λ c. search needs)
-    (λ c. search needs)
+    (λ c κs. search needs)
+    array-write-b
+    array-share-prefix-b
+    slice-aggregate-record-of
     record-of-requires
     returns-3)

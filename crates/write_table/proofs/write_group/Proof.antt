@@ -1,6 +1,6 @@
 -- A walk of the function's MIR, by hand, in four parts: the plan, what it writes without the records, the Ctabs, the answer. Each refusal is in the plan, which asks for no step where it refuses.
 -- The output is lent again for each of the two steps, for a lifetime that is made for the call, and comes back. What the steps ask for and what they leave are laws of crate `write_chunks`: `plan-fits` and `plan-written`.
-use Rattle.walk.proofs.Words.{_∙_, _≡_, ap, refl, subst, sym, _*_, _+_, _<_, _^_, _≤_, ℕ, arith, List, [], _∷_, length}
+use Rattle.walk.proofs.Words.{_∙_, _≡_, ap, refl, subst, sym, _<_, _^_, _≤_, ℕ, arith, List, [], _∷_, length}
 use Rattle.walk.proofs.Words.{URA, fullShare, Ty, erased, imm, mut, named, tyInt, tyRef, w64, w8, Val, vint, SProp, ent, sep, Fml, GName, Lft, Share, fat, fdies, flft, froom, ftrue, Memory, Routine, Calls, Env, Heap, Loops, Tables, WpFn}
 use Rattle.walk.proofs.Words.{Atoms, sem, Fun, givenOf, tables, tablesOf}
 use Rattle.walk.proofs.Words.{ !, Given, Item, Sq, _$_, _∵_, _⊛_, atRet, await, by, done, drop, feqL, fjoin, frame, fsplit, join, keep, later, move, pick, qed, raw, rewrite, runs, some, split, suffices, use1, use2, use3, ‵, ⋆, addr, alloc0, alloc1, and-then, assigns}
@@ -17,12 +17,14 @@ use Rattle.walk.proofs.Meeting.{meets}
 use Rattle.layout.specs.declared.answer.Measured.{Measured}
 use Rattle.layout.specs.declared.record.Record.{Record}
 use Rattle.layout.specs.Edit.{replaced}
+use Rattle.layout.specs.Group.{ctabPlace}
+use Rattle.layout.specs.Write.{firstEdition}
 use Rattle.layout.specs.Promises.{GroupWritten}
 use Rattle.write_plan.specs.declared.Plan.{Plan}
-use Rattle.write_plan.specs.Checking.{planOf, measuredBy, startPlace}
+use Rattle.write_plan.specs.Checking.{OneEdition, planOf, measuredBy, startPlace}
 use Rattle.write_plan.specs.Chunks.{framed}
 use Rattle.write_chunks.proofs.Putting.{ctabs as ctabs-of}
-use Rattle.write_chunks.proofs.Written.{PlanFits, plan-fits, plan-written}
+use Rattle.write_chunks.proofs.Written.{PlanFits, plan-fits, fits-first, plan-written}
 use Rattle.layout.proofs.answer.Measured as Q
 use Rattle.write_plan.proofs.Plan as P
 use Rattle.write_table.proofs.Again.{LentAgain, lends-again, comes-back}
@@ -114,6 +116,10 @@ module _ {M : Type 1} (𝓤 : URA M) (H : Heap 𝓤) (A : Atoms 𝓤) (W : Given
   fits : PlanFits ts rs (length out) pl
   fits = plan-fits ts rs count (length out)
 
+  -- its records are of the edition of the first
+  one : OneEdition (firstEdition rs) rs n × (ctabPlace (firstEdition rs) at n ≤ length out)
+  one = fits-first ts rs (length out) pl fits n (omega arith)
+
   abbrev OwnText : Fml
   OwnText = ShrSlice (named 0) κ₁ u8 .own text (s₁ ∷ [])
 
@@ -162,9 +168,9 @@ module _ {M : Type 1} (𝓤 : URA M) (H : Heap 𝓤) (A : Atoms 𝓤) (W : Given
   abbrev to-put : ℕ → GName → List ℕ → ℕ → Put 𝓤 H A mem run .Ghost
   to-put ν δ l p = (((κ₂, (ν ∷ [], tt)), (q₂, (fullShare, tt)), tt, (table, (n, (x δ l, (p, tt)))), (s₂ ∷ [], (vint w64 n ∷ [], (s (length l) ∷ [], (vint w64 p ∷ [], tt))))), tt)
 
-  goes-put : (ν : ℕ) (δ : GName) (l : List ℕ) (p : ℕ) → n < 2 ^ 64 → p < 2 ^ 64 → p + 35 * n ≤ length l
+  goes-put : (ν : ℕ) (δ : GName) (l : List ℕ) (p : ℕ) → n < 2 ^ 64 → p < 2 ^ 64 → ctabPlace (firstEdition rs) p n ≤ length l
       → ent 𝓤 (sep 𝓤 (sep 𝓤 (sem 𝓤 H A OwnTab) (sem 𝓤 H A (OwnSecond ν δ l))) (sep 𝓤 (A .lft κ₂ q₂) (A .lft (ν ∷ []) fullShare))) (Put 𝓤 H A mem run .pre (to-put ν δ l p))
-  goes-put ν δ l p n-fits p-fits within = qed W ((‵ OwnTab ⊛ ‵ (OwnSecond ν δ l)) ∷ ‵ (flft κ₂ q₂) ∷ ‵ (flft (ν ∷ []) fullShare) ∷ []) ∵ says ! (omega (arith, fits .within), within) $
+  goes-put ν δ l p n-fits p-fits within = qed W ((‵ OwnTab ⊛ ‵ (OwnSecond ν δ l)) ∷ ‵ (flft κ₂ q₂) ∷ ‵ (flft (ν ∷ []) fullShare) ∷ []) ∵ says ! (omega (arith, fits .within), (one .0, within)) $
       nothing ! $ move ! (3 ∷ 0 ∷ []) $ join ! $ move ! (2 ∷ 0 ∷ []) $ join ! $ frame ! $ split ! $
       nothing ! $ owned ! usize (Is usize) (uint-makes 𝓤 H A W w64) p _ (refl, p-fits) $ fjoin ! $ move ! (2 ∷ 0 ∷ []) $ fjoin ! $
       owned ! usize (Is usize) (uint-makes 𝓤 H A W w64) (n) _ (refl, n-fits) $ fjoin ! $ move ! (1 ∷ 0 ∷ []) $ fjoin ! $ done !
@@ -256,8 +262,8 @@ module _ {M : Type 1} (𝓤 : URA M) (H : Heap 𝓤) (A : Atoms 𝓤) (W : Given
           here : Room u8 (length out₁)
           here = subst (Room u8) (sym len) room
 
-          within : to + 35 * n ≤ length out₁
-          within = omega (arith, len, fits .chunks)
+          within : ctabPlace (firstEdition rs) to n ≤ length out₁
+          within = omega (arith, len, one .1)
 
       -- the group's start and its Cntts
       started : Sq W (‵ OwnText ∷ ‵ (flft κ₁ q₁) ∷ ‵ OwnTab ∷ ‵ (flft κ₂ q₂) ∷ ‵ (OwnOut out (length out)) ∷ ‵ (flft κ₃ q₃)

@@ -9,7 +9,7 @@ returns : tie.Need-returns
 returns c = channel-no _ _ _ _ _ (sym (c .before .before .before .find-record .ensures) ∙ c .before .number .given .1)
 
 returns-2 : tie.Need-returns-2
-returns-2 c = channel-at _ _ _ _ _ (sym (c .before .before .before .find-record .ensures) ∙ c .before .row .given .1)
+returns-2 c = channel-at _ _ _ _ _ _ (sym (c .before .before .before .find-record .ensures) ∙ c .before .row .given .1)
 
 pub find-channel-spec : {M : Type 1} → statement M
 find-channel-spec =

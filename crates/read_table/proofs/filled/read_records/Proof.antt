@@ -13,7 +13,6 @@ use Rattle.walk.proofs.Records.{R, vals}
 use Rattle.walk.proofs.Calls.{gives, gives-back}
 use Rattle.walk.proofs.Meeting.{meets}
 use Rattle.layout.specs.Promises.{RecordsRead}
-use Rattle.layout.specs.declared.edition.Edition.the-variants.{First}
 use Rattle.layout.specs.declared.record.Record.{Record}
 use Rattle.layout.specs.Group.{ctabPlace}
 use Rattle.layout.specs.declared.answer.Counted.{Counted}
@@ -117,7 +116,7 @@ module _ {M : Type 1} (𝓤 : URA M) (H : Heap 𝓤) (A : Atoms 𝓤) (W : Given
     abbrev to-one : ℕ → One 𝓤 H A mem run .Ghost
     to-one i = (((κ₁, tt), (q₁, tt), tt, (src, (p, (i, tt))), (s₁ ∷ [], (valP p ∷ [], (vint w64 i ∷ [], tt)))), tt)
 
-    goes-one : (i : ℕ) → i < 2 ^ 64 → (ctabPlace First (p .ctabs) (i + 1) ≤ length ss) × ((p .cntts + 10 * p .seconds ≤ length ss) × (p .seconds ≤ 16)) → ent 𝓤 (sep 𝓤 (A .lft κ₁ q₁) (sem 𝓤 H A Own)) (One 𝓤 H A mem run .pre (to-one i))
+    goes-one : (i : ℕ) → i < 2 ^ 64 → (ctabPlace (p .edition) (p .ctabs) (i + 1) ≤ length ss) × ((p .cntts + 10 * p .seconds ≤ length ss) × (p .seconds ≤ 16)) → ent 𝓤 (sep 𝓤 (A .lft κ₁ q₁) (sem 𝓤 H A Own)) (One 𝓤 H A mem run .pre (to-one i))
     goes-one i fits within = qed W (‵ (flft κ₁ q₁) ∷ ‵ Own ∷ []) ∵ says ! within $ nothing ! $ move ! (1 ∷ 0 ∷ []) $ join ! $ frame ! $ nothing ! $ owned ! usize (Is usize) (uint-makes 𝓤 H A W w64) i _ (refl, fits) $ fjoin ! $
         owned ! P.the-row (Is P.the-row) (LL.makes P.the-type P.Laws.the-plain 𝓤 H A) p _ g $ fjoin ! $ move ! (1 ∷ 0 ∷ []) $ fjoin ! $ done !
 
@@ -187,9 +186,9 @@ module _ {M : Type 1} (𝓤 : URA M) (H : Heap 𝓤) (A : Atoms 𝓤) (W : Given
           calls-at ! fm (One 𝓤 H A mem run) known-one (to-one p g (i .0)) (and-then ! (load ! (from ! (stop !)) (look ! 26 refl)) (and-then ! (load ! (from ! (stop !)) (look ! 20 refl)) (and-then ! (load ! (from ! (stop !)) (look ! 16 refl)) (no-more !)))) (λ w.
           gives-back ! tt one.ended (κ₁, tt) (src, (p, (i .0, tt))) R (λ r. r ≡ plannedRecord ss p (i .0)) (‵ (flft κ₁ q₁) ⊛ ‵ ftrue) w (λ r d is. land ! (from ! (stop !)) (init ! 11 refl (LL.lawful T.the-type T.Laws.the-laws 𝓤 H A W .typed r _ is .0)) $ move ! (1 ∷ []) $ split ! $
           -- [the body's token; true; what the record owns; what the body owns; the row; the open borrow; obs; auth; _11; …]
-          assigns ! (bin ! (load ! (from ! (stop !)) (look ! 18 refl)) (lit ! tt) (scaled-fits _ _ 29 in-table (room .1))) (from ! (stop !)) (init ! 10 refl (tt, scaled-fits _ _ 29 in-table (room .1))) $
+          assigns ! (bin ! (load ! (from ! (stop !)) (look ! 18 refl)) (lit ! tt) (scaled-fits _ _ 48 in-table (room .1))) (from ! (stop !)) (init ! 10 refl (tt, scaled-fits _ _ 48 in-table (room .1))) $
           assigns ! (bin ! (load ! (from ! (fld ! refl (stop !))) (look-in ! 24 (sub ! 0 refl (whole !)))) (load ! (from ! (stop !)) (look ! 10 refl)) tt) (from ! (stop !)) (init ! 8 refl (tt, tt)) $
-          rewrite ! 8 (λ (z : ℕ). ‵ (fat fullShare tyPtr l₁₁ 0 (vptr b z))) (sym (place-is 29 o (i .0))) refl $
+          rewrite ! 8 (λ (z : ℕ). ‵ (fat fullShare tyPtr l₁₁ 0 (vptr b z))) (sym (place-is 48 o (i .0))) refl $
           move ! (4 ∷ []) $ elem-out ! R (Is R) (shows 𝓤 H A R) vals (LL.tells T.the-type T.Laws.the-laws) fullShare (done-at p (i .0)) (i .0) r b o in-row (λ _.
           -- [table[i]; what it owns; the others; the body's token; true; what the record owns; what the body owns; the open borrow; obs; auth; _11; …]
           assigns ! (of-opd ! (load ! (from ! (stop !)) (look ! 14 refl))) (from ! (hop ! (look ! 10 refl) (stop !))) (store-raw ! 0 refl (LL.lawful T.the-type T.Laws.the-laws 𝓤 H A W .typed r _ is .0)) $

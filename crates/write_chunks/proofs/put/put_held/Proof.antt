@@ -11,6 +11,9 @@ put-bytes-requires c κs = let start = c .before .before .before in omega (arith
 enum-told : tie.Need-enum-told
 enum-told c = search needs
 
+enum-told-2 : tie.Need-enum-told-2
+enum-told-2 c = search needs
+
 slice-write-out : tie.Need-slice-write-out
 slice-write-out c =
     let put = c .before .before .before .before in
@@ -36,7 +39,7 @@ put-held-spec =
     put-bytes-requires
     enum-told
     slice-write-out
-    (λ c. search needs)
+    enum-told-2
     (λ c. search needs)
     returns
     (λ c. search needs)

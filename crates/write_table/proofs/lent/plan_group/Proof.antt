@@ -47,7 +47,7 @@ Num = plain (λ _. usize)
 abbrev stayed : Stays (group.ended .signature .params) (group.ended .kept)
 stayed = (stay-dropped Text yes, (stay-dropped Table yes, (stay-dropped Num yes, (stay-dropped Num yes, tt))))
 
-few : {n l : ℕ} → l * 29 < 2 ^ 63 → n < l → n < recordsNever
+few : {n l : ℕ} → l * 48 < 2 ^ 63 → n < l → n < recordsNever
 few room within = omega (arith, room, within)
 
 -- ---- the state
@@ -207,9 +207,9 @@ module _ {M : Type 1} (𝓤 : URA M) (H : Heap 𝓤) (A : Atoms 𝓤) (W : Given
       more i t =
           assigns ! (bin ! (load ! (from ! (stop !)) (look ! 16 refl)) (load ! (from ! (stop !)) (look ! 18 refl)) tt) (from ! (stop !)) (init ! 10 refl (tt, tt)) $
           rewrite ! 10 (λ (z : Bool). ‵ (fat fullShare tyBool l₁₀ 0 (vbool z))) t refl $ stays ! (load ! (from ! (stop !)) (look ! 10 refl)) $
-          assigns ! (bin ! (load ! (from ! (stop !)) (look ! 16 refl)) (lit ! tt) (scaled-fits _ _ 29 in-table (room .1))) (from ! (stop !)) (init ! 8 refl (tt, scaled-fits _ _ 29 in-table (room .1))) $
+          assigns ! (bin ! (load ! (from ! (stop !)) (look ! 16 refl)) (lit ! tt) (scaled-fits _ _ 48 in-table (room .1))) (from ! (stop !)) (init ! 8 refl (tt, scaled-fits _ _ 48 in-table (room .1))) $
           assigns ! (bin ! (load ! (from ! (fld ! refl (stop !))) (look-in ! 26 (sub ! 0 refl (whole !)))) (load ! (from ! (stop !)) (look ! 8 refl)) tt) (from ! (stop !)) (init ! 6 refl (tt, tt)) $
-          rewrite ! 6 (λ (p : ℕ). ‵ (fat fullShare tyPtr l₁₂ 0 (vptr b p))) (sym (place-is 29 o (i .0))) refl $
+          rewrite ! 6 (λ (p : ℕ). ‵ (fat fullShare tyPtr l₁₂ 0 (vptr b p))) (sym (place-is 48 o (i .0))) refl $
           move ! (2 ∷ []) $ elem-out ! R (Is R) (shows 𝓤 H A R) vals (LL.tells T.the-type T.Laws.the-laws) q′ rs (i .0) blank b o in-table (λ g.
           -- [table[i]; what it owns; the others; what the state owns; the text's token; the open borrow; _13; …]
           assigns ! (of-opd ! (load ! (from ! (hop ! (look ! 8 refl) (stop !))) (look-raw ! 0 refl))) (from ! (stop !)) (init ! 6 refl (LL.lawful T.the-type T.Laws.the-laws 𝓤 H A W .typed r _ g .0)) $

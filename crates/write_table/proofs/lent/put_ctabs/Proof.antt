@@ -1,7 +1,7 @@
 -- A walk of the function's MIR, by hand, with a loop that reads one record a turn and passes it to `put_record`, which is covered.
 -- The table is looked into once, before the loop, and shut once, after it. The output is lent again in each turn, for a lifetime that is made for the call, and comes back (`Again.antt`).
 -- After i turns the output is what `Putting.antt` says of the Ctabs of the first i records.
-use Rattle.walk.proofs.Words.{_∙_, _≡_, refl, subst, sym, _*_, _+_, _-_, _<_, _^_, _≤_, zero-le, ℕ, le-antisymm, add-one-dec, add-one-le, arith, Bool, false, true, InvImage·wf, WellFounded, List, [], _∷_, getD, length, Nat·lt-wfRel, lit<, ltb, scaled-fits, ltb-false, ltb-true}
+use Rattle.walk.proofs.Words.{_∙_, _≡_, ap, refl, subst, sym, _+_, _-_, _<_, _^_, _≤_, zero-le, ℕ, le-antisymm, add-one-dec, add-one-le, arith, Bool, false, true, InvImage·wf, WellFounded, List, [], _∷_, getD, length, Nat·lt-wfRel, lit<, ltb, scaled-fits, ltb-false, ltb-true}
 use Rattle.walk.proofs.Words.{URA, fullShare, Ty, erased, imm, mut, named, tyBool, tyInt, tyPtr, tyRef, w64, w8, Val, vbool, vint, vptr, SProp, ent, sep, Fml, GName, Lft, Share, fat, fdies, flft, fobor, froom, ftrue, Memory, Routine, Calls, Env, Heap, Loops, Out}
 use Rattle.walk.proofs.Words.{Tables, Wp, WpFn, afterBlock, afterSeq, atReturn, afterTurn, Atoms, sem, Fun, givenOf, tables, tablesOf}
 use Rattle.walk.proofs.Words.{ !, Given, Item, Sq, _$_, _∵_, _⊛_, anyQ, atRet, await, by, done, drop, feqI, feqL, fjoin, frame, fsplit, join, keep, later, move, pick, qed, raw, rewrite, runs, some, split, suffices, use1, use2, use3, ‵, ⋆, Below, addr, again, alloc0}
@@ -19,12 +19,17 @@ use denote.Struct.Laws as LL
 use Rattle.walk.proofs.Records.{R, vals}
 use Rattle.walk.proofs.Calls.{gives-lent}
 use Rattle.walk.proofs.Meeting.{meets-under}
+use Rattle.layout.specs.declared.edition.Edition.{Edition}
 use Rattle.layout.specs.declared.record.Record.{Record}
-use Rattle.layout.specs.Records.{blank}
+use Rattle.layout.specs.Editions.{size}
+use Rattle.layout.specs.Records.{blank, editionOf}
 use Rattle.layout.specs.Edit.{replaced}
-use Rattle.layout.specs.Write.{ctabBytes}
+use Rattle.layout.specs.Group.{ctabPlace}
+use Rattle.layout.specs.Write.{firstEdition, ctabBytes}
+use Rattle.layout.proofs.Ctabs.{place-before}
 use Rattle.layout.proofs.record.Record as T
 use Rattle.write_table.proofs.Again.{LentAgain, lends-again, comes-back}
+use Rattle.write_plan.specs.Checking.{OneEdition}
 use Rattle.write_chunks.proofs.Putting.{Putting, ctabs, ctabs-start, ctabs-put, ctabs-next}
 use Rattle.write_chunks.proofs.places.put_record as put
 use Rattle.write_table.proofs.lent.put_ctabs as pass
@@ -97,13 +102,13 @@ module _ {M : Type 1} (𝓤 : URA M) (H : Heap 𝓤) (A : Atoms 𝓤) (W : Given
   abbrev to-put : ℕ → GName → List ℕ → ℕ → ℕ → Record → Put 𝓤 H A mem run .Ghost
   to-put ν δ l p i r = (((ν ∷ [], tt), (fullShare, tt), tt, (x δ l, (p, (i, (r, tt)))), (s (length l) ∷ [], (vint w64 p ∷ [], (vint w64 i ∷ [], (vals r, tt))))), tt)
 
-  goes-put : (ν : ℕ) (δ : GName) (l : List ℕ) (p i : ℕ) (r : Record) → p < 2 ^ 64 → i < 2 ^ 64 → Is R r (vals r) → p + 35 * i + 35 ≤ length l
+  goes-put : (ν : ℕ) (δ : GName) (l : List ℕ) (p i : ℕ) (r : Record) → p < 2 ^ 64 → i < 2 ^ 64 → Is R r (vals r) → ctabPlace (editionOf r) p i + (8 + size (editionOf r)) ≤ length l
       → ent 𝓤 (sep 𝓤 (A .lft (ν ∷ []) fullShare) (sem 𝓤 H A (MutSlice (named 0) (ν ∷ []) u8 .own (x δ l) (s (length l) ∷ [])))) (Put 𝓤 H A mem run .pre (to-put ν δ l p i r))
   goes-put ν δ l p i r p-fits fits g within =
       qed W (‵ (flft (ν ∷ []) fullShare) ∷ ‵ (MutSlice (named 0) (ν ∷ []) u8 .own (x δ l) (s (length l) ∷ [])) ∷ []) ∵ says ! within $ nothing ! $ move ! (1 ∷ 0 ∷ []) $ join ! $ frame ! $
       nothing ! $ owned ! R (Is R) (LL.makes T.the-type T.Laws.the-plain 𝓤 H A) r _ g $ fjoin ! $ owned ! usize (Is usize) (uint-makes 𝓤 H A W w64) i _ (refl, fits) $ fjoin ! $ owned ! usize (Is usize) (uint-makes 𝓤 H A W w64) p _ (refl, p-fits) $ fjoin ! $ move ! (1 ∷ 0 ∷ []) $ fjoin ! $ done !
 
-  module _ (𝓣 : Tables 𝓤 H) (known : Triple 𝓤 (𝓣 .C put.Symbol.name) (Put 𝓤 H A mem run)) (room₁ : Room R (length rs)) (room : Room u8 (length out)) (in-rs : n ≤ length rs) (in-out : at + 35 * n ≤ length out) where
+  module _ (𝓣 : Tables 𝓤 H) (known : Triple 𝓤 (𝓣 .C put.Symbol.name) (Put 𝓤 H A mem run)) (room₁ : Room R (length rs)) (room : Room u8 (length out)) (in-rs : n ≤ length rs) (same : OneEdition (firstEdition rs) rs n) (in-out : ctabPlace (firstEdition rs) at n ≤ length out) where
     abbrev C : Calls 𝓤 H
     C = 𝓣 .C
 
@@ -130,7 +135,7 @@ module _ {M : Type 1} (𝓤 : URA M) (H : Heap 𝓤) (A : Atoms 𝓤) (W : Given
 
     -- what stands there after i turns
     put-at : (i : ℕ) → i ≤ n → Putting (ctabs rs) out at n (out-at i) i
-    put-at = ctabs-put rs out at n in-rs in-out
+    put-at = ctabs-put rs (firstEdition rs) out at n in-rs same in-out
 
     module _ (q′ : Share) (l₀ l₁ l₂ l₃ l₄ l₅ l₆ l₇ l₈ l₉ l₁₀ l₁₁ l₁₂ l₁₃ : ℕ) where
       abbrev En : Env 𝓤 H
@@ -162,9 +167,9 @@ module _ {M : Type 1} (𝓤 : URA M) (H : Heap 𝓤) (A : Atoms 𝓤) (W : Given
       more i t =
           assigns ! (bin ! (load ! (from ! (stop !)) (look ! 21 refl)) (load ! (from ! (stop !)) (look ! 27 refl)) tt) (from ! (stop !)) (init ! 17 refl (tt, tt)) $
           rewrite ! 17 (λ (z : Bool). ‵ (fat fullShare tyBool l₇ 0 (vbool z))) t refl $ stays ! (load ! (from ! (stop !)) (look ! 17 refl)) $
-          assigns ! (bin ! (load ! (from ! (stop !)) (look ! 21 refl)) (lit ! tt) (scaled-fits _ _ 29 in-table (room₁ .1))) (from ! (stop !)) (init ! 15 refl (tt, scaled-fits _ _ 29 in-table (room₁ .1))) $
+          assigns ! (bin ! (load ! (from ! (stop !)) (look ! 21 refl)) (lit ! tt) (scaled-fits _ _ 48 in-table (room₁ .1))) (from ! (stop !)) (init ! 15 refl (tt, scaled-fits _ _ 48 in-table (room₁ .1))) $
           assigns ! (bin ! (load ! (from ! (fld ! refl (stop !))) (look-in ! 29 (sub ! 0 refl (whole !)))) (load ! (from ! (stop !)) (look ! 15 refl)) tt) (from ! (stop !)) (init ! 13 refl (tt, tt)) $
-          rewrite ! 13 (λ (p : ℕ). ‵ (fat fullShare tyPtr l₉ 0 (vptr b₁ p))) (sym (place-is 29 o₁ (i .0))) refl $
+          rewrite ! 13 (λ (p : ℕ). ‵ (fat fullShare tyPtr l₉ 0 (vptr b₁ p))) (sym (place-is 48 o₁ (i .0))) refl $
           move ! (2 ∷ []) $ elem-out ! R (Is R) (shows 𝓤 H A R) vals (LL.tells T.the-type T.Laws.the-laws) q′ rs (i .0) blank b₁ o₁ in-table (λ g.
           -- [table[i]; what it owns; the others; what the output owns; its token; the open borrow; what the table owns; _13; …]
           assigns ! (of-opd ! (load ! (from ! (hop ! (look ! 15 refl) (stop !))) (look-raw ! 0 refl))) (from ! (stop !)) (init ! 13 refl (LL.lawful T.the-type T.Laws.the-laws 𝓤 H A W .typed r _ g .0)) $
@@ -177,7 +182,7 @@ module _ {M : Type 1} (𝓤 : URA M) (H : Heap 𝓤) (A : Atoms 𝓤) (W : Given
           use2 W (later (some (λ (δ : GName). ‵ (MutSlice (named 0) (ν ∷ []) u8 .own (x δ ys) (s (length ys) ∷ [])) ⊛ ‵ (LentAgain u8 κ₂ (ν ∷ []) q₂ γ b o δ ys)))) (lends-again u8 κ₂ (ν ∷ []) q₂ γ b o 𝓤 H A W (named 1) (named 0) ys) $ await ! tt $ pick ! (λ δ. split ! $
           move ! (2 ∷ 0 ∷ []) $ use2 W (raw (Put 𝓤 H A mem run .pre (to-put ν δ ys p j r))) (goes-put ν δ ys p j r p-fits fits g in-ys) $
           calls-at ! fm (Put 𝓤 H A mem run) known (to-put ν δ ys p j r) (and-then ! (load ! (from ! (stop !)) (look ! 5 refl)) (and-then ! (load ! (from ! (stop !)) (look ! 23 refl)) (and-then ! (load ! (from ! (stop !)) (look ! 21 refl)) (and-then ! (load ! (from ! (stop !)) (look ! 19 refl)) (no-more !))))) (λ w.
-          gives-lent ! tt put.ended (ν ∷ [], tt) (x δ ys, (p, (j, (r, tt)))) unit (λ u zs. zs .0 ≡ replaced ys (p + 35 * j) (ctabBytes r)) (‵ (flft (ν ∷ []) fullShare) ⊛ ‵ ftrue) w (λ u zs d is.
+          gives-lent ! tt put.ended (ν ∷ [], tt) (x δ ys, (p, (j, (r, tt)))) unit (λ u zs. zs .0 ≡ replaced ys (ctabPlace (editionOf r) p j) (ctabBytes r)) (‵ (flft (ν ∷ []) fullShare) ⊛ ‵ ftrue) w (λ u zs d is.
           land ! (from ! (stop !)) (init ! 11 refl (nothing-lawful 𝓤 H A W .typed u _ is .0)) $ move ! (2 ∷ []) $ fsplit ! $ fsplit ! $ move ! (1 ∷ []) $ feqL ! (λ l. move ! (3 ∷ []) $ split ! $ lft-end ! tt $ move ! (0 ∷ 5 ∷ 2 ∷ []) $
           use3 W (later (‵ (OwnOut (zs .0) (length ys)) ⊛ ‵ (flft κ₂ q₂))) (comes-back u8 κ₂ (ν ∷ []) q₂ γ b o 𝓤 H A W (named 1) (named 0) ys δ (zs .0) room-at l) $ await ! tt $ split ! $
           -- [what the output owns; its token; true; what is left; the result's; the row; the open borrow; what the table owns; _13; …]
@@ -215,14 +220,18 @@ module _ {M : Type 1} (𝓤 : URA M) (H : Heap 𝓤) (A : Atoms 𝓤) (W : Given
           in-table : i .0 < length rs
           in-table = omega (arith, less, in-rs)
 
+          -- the record is of the edition of the first
+          own : firstEdition rs ≡ editionOf r
+          own = same (i .0) less
+
           put-now : Putting (ctabs rs) out at n ys (i .0)
           put-now = put-at (i .0) (i .1)
 
-          put-next : Putting (ctabs rs) out at n (replaced ys (p + 35 * j) (ctabBytes r)) (i .0 + 1)
-          put-next = ctabs-next rs out at n in-rs in-out ys (i .0) put-now less _ refl
+          put-next : Putting (ctabs rs) out at n (replaced ys (ctabPlace (editionOf r) p j) (ctabBytes r)) (i .0 + 1)
+          put-next = ctabs-next rs (firstEdition rs) out at n in-rs same in-out ys (i .0) put-now less _ (sym (ap (λ (e : Edition). replaced ys (ctabPlace e p j) (ctabBytes r)) own))
 
-          in-ys : p + 35 * j + 35 ≤ length ys
-          in-ys = omega (arith, less, in-out, put-now .long)
+          in-ys : ctabPlace (editionOf r) p j + (8 + size (editionOf r)) ≤ length ys
+          in-ys = subst (λ (e : Edition). ctabPlace e p j + (8 + size e) ≤ length ys) own (omega (arith, place-before (firstEdition rs) p j n less, in-out, put-now .long))
 
           room-at : Room u8 (length ys)
           room-at = subst (Room u8) (sym (put-now .long)) room
@@ -275,15 +284,15 @@ module _ {M : Type 1} (𝓤 : URA M) (H : Heap 𝓤) (A : Atoms 𝓤) (W : Given
         looped q′ l₀ l₁ l₂ l₃ l₄ l₅ l₆ l₇ l₈ l₉ l₁₀ l₁₁ l₁₂ l₁₃)))))))))))))))
       where
         start : out ≡ out-at 0
-        start = ctabs-start rs out at n .so
+        start = ctabs-start rs (firstEdition rs) out at n .so
 
 pass-meets : {M : Type 1} (𝓤 : URA M) (H : Heap 𝓤) (A : Atoms 𝓤) (W : Given 𝓤 H A) (mem : Memory → SProp 𝓤) (run : Routine → Fun 𝓤) (𝓣 : Tables 𝓤 H)
     → Triple 𝓤 (𝓣 .C put.Symbol.name) (Put 𝓤 H A mem run) → Meets 𝓤 H A pass.signature (WpFn 𝓤 H (𝓣 .C) (𝓣 .Λ) code.function) (pass.spec 𝓤 H A mem run)
 pass-meets 𝓤 H A W mem run 𝓣 known =
     meets-under 𝓤 H A pass.ended stayed W (goes-none-slice 𝓤 H A W 2 (0 ∷ []) tt (plain (λ _. R)) yes, (goes-dropped 𝓤 H A W 2 Num yes (λ κs x f. refl), (goes-slice 𝓤 H A W 2 1 tt (plain (λ _. u8)), (goes-dropped 𝓤 H A W 2 Num yes (λ κs x f. refl), tt))))
     (pass.clauses 𝓤 H A mem run) 𝓣 code.function (λ κs. (slice-vals, (uint-vals w64, (slice-vals, (uint-vals w64, tt))))) (λ κs. (shr-slice-tells (named 0) (κs .0) R, (uint-tells w64, (mut-slice-tells (named 1) (κs .1 .0) u8, (uint-tells w64, tt)))))
-    (λ κs qs bounds a _ are. needs 𝓤 ((a .1 .0 ≤ length (a .0 .now)) × (a .1 .1 .1 .0 + 35 * a .1 .0 ≤ length (a .1 .1 .0 .now))) _ (λ h.
-    walk 𝓤 H A W mem run (κs .0) (κs .1 .0) (qs .0) (qs .1 .0) (a .0) (a .1 .0) (are .1 .0 .1) (a .1 .1 .0 .ptr .0) (a .1 .1 .0 .ptr .1) (a .1 .1 .0 .name) (a .1 .1 .0 .now) (a .1 .1 .1 .0) (are .1 .1 .1 .0 .1) 𝓣 known (are .0 .0 .1) (are .1 .1 .0 .0 .1) (h .0) (h .1)))
+    (λ κs qs bounds a _ are. needs 𝓤 ((a .1 .0 ≤ length (a .0 .now)) × (OneEdition (firstEdition (a .0 .now)) (a .0 .now) (a .1 .0) × (ctabPlace (firstEdition (a .0 .now)) (a .1 .1 .1 .0) (a .1 .0) ≤ length (a .1 .1 .0 .now)))) _ (λ h.
+    walk 𝓤 H A W mem run (κs .0) (κs .1 .0) (qs .0) (qs .1 .0) (a .0) (a .1 .0) (are .1 .0 .1) (a .1 .1 .0 .ptr .0) (a .1 .1 .0 .ptr .1) (a .1 .1 .0 .name) (a .1 .1 .0 .now) (a .1 .1 .1 .0) (are .1 .1 .1 .0 .1) 𝓣 known (are .0 .0 .1) (are .1 .1 .0 .0 .1) (h .0) (h .1 .0) (h .1 .1)))
 
 pub put-ctabs-spec : {M : Type 1} → pass.Statement.statement M
 unfolding code.routine tablesOf
