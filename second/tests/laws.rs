@@ -2,6 +2,7 @@
 
 mod common;
 
+use common::answered::answered;
 use common::chunks::{edition, groups, names, of_tag, records};
 use common::{entries_of, plain_record};
 use second::body::{read_body, read_group};
@@ -13,27 +14,13 @@ use second::gen::ctb2;
 use second::gen::dice::Dice;
 use second::gen::positions::shuffle;
 use second::gen::sound;
-use second::gen::Script;
 use second::place::place_note;
 use second::plays::who_plays;
 use second::record::{First, Record};
-use second::script::{bytes, number, record, show_record, tokens};
+use second::script::{bytes, number, record, show_record};
 use second::style::find;
 use second::voice::voice_name;
 use second::write::write_group;
-
-/// The tokens of the lines of a verb that keep the grammar, each with its answer.
-fn answered(verb: &'static str, seed: u64, count: usize) -> Vec<(Vec<Vec<u8>>, Vec<String>)> {
-    let mut list = Vec::new();
-    for line in Script::new(seed, &[verb]).take(count) {
-        let words: Vec<String> = answer(&line).split(' ').map(str::to_string).collect();
-        if words[0] != "bad" {
-            let parts = tokens(&line).unwrap();
-            list.push((parts.iter().map(|part| part.to_vec()).collect(), words));
-        }
-    }
-    list
-}
 
 /// The bodies of generated lines, up to a size that a strict body can have.
 fn some_bodies(verb: &'static str, seed: u64, count: usize) -> Vec<Vec<u8>> {

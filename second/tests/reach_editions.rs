@@ -3,27 +3,15 @@
 
 mod common;
 
+use common::answered::answered;
 use common::note_kinds::set_of;
 use second::body::read_body;
-use second::calls::{answer, VERBS};
+use second::calls::VERBS;
 use second::edition::Edition;
 use second::gen::Script;
 use second::record::{first_bad_byte, Record};
-use second::script::{bytes, number, record, tokens};
+use second::script::{bytes, number, record};
 use std::collections::{BTreeMap, BTreeSet};
-
-/// The tokens of the lines of a verb that keep the grammar, each with its answer.
-fn answered(verb: &'static str, seed: u64, count: usize) -> Vec<(Vec<Vec<u8>>, Vec<String>)> {
-    let mut list = Vec::new();
-    for line in Script::new(seed, &[verb]).take(count) {
-        let words: Vec<String> = answer(&line).split(' ').map(str::to_string).collect();
-        if words[0] != "bad" {
-            let parts = tokens(&line).unwrap();
-            list.push((parts.iter().map(|part| part.to_vec()).collect(), words));
-        }
-    }
-    list
-}
 
 /// `ok`, or the number of a refusal.
 fn outcome(words: &[String]) -> &str {

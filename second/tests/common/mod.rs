@@ -1,6 +1,7 @@
 //! What the tests share: the bytes M and N of document 01, a plain record and a salvage list.
 #![allow(dead_code)]
 
+pub mod answered;
 pub mod chunks;
 pub mod note_kinds;
 pub mod place_kinds;
