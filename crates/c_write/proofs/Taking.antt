@@ -21,8 +21,9 @@ use Rattle.layout.proofs.Records.{bytes-length}
 use Rattle.write_plan.specs.declared.Checked.{Checked}
 use Rattle.write_plan.specs.declared.Plan.{Plan}
 use Rattle.write_plan.specs.declared.Taken.{Taken}
-use Rattle.write_plan.specs.Checking.{begun, recordsNever, Looking as Looked, looked, laidAfter, OneEdition, taken, takenAt, planned, planOf}
+use Rattle.write_plan.specs.Checking.{begun, recordsNever, Looking as Looked, looked, laidAfter, OneEdition, taken, takenAt, noPlan, planned, planOf}
 use Rattle.write_plan.proofs.Length.{looking, records-within}
+use Rattle.write_plan.proofs.Looking.{taken-stays, planned-not}
 use Rattle.layout.proofs.BytesBack.{edition-made}
 use Rattle.write_chunks.proofs.Putting.{Putting, ctabs, ctabs-next}
 use Rattle.write_chunks.proofs.Stored.{ctab-put}
@@ -109,6 +110,15 @@ module _ (text flat : List ℕ) (count : ℕ) where
         let d = record-is flat i (recordIn row) (omega (arith, looking-lent)) (stands flat i row e) in
         let t : record { checked = y; cntts = after } ≡ taken (record { checked = x; cntts = cntts }) i (recordIn row) = ap₂ {C = Taken} (λ (a : Checked) (b : List ℕ). record { checked = a; cntts = b }) (q .0) (q .1) in
         record { whole = l .whole; some = omega arith; so = rw (add-one i) (t ∙ ap₂ (λ (a : Taken) (b : Record). taken a i b) (l .so) d) }
+
+    -- a refusal is the plan's, however many records follow
+    pub looking-refused : (room : ℕ) (p : Plan) → (x .number ≡ 0 → ⊥) → p ≡ noPlan (x .number) (x .place) → p ≡ planOf text (tableOf flat) count room
+    unfolding planOf
+    looking-refused room p h q =
+        let at = ap (λ (a : Taken). a .checked) (l .so) in
+        let e = taken-stays start (tableOf flat) i (λ z. h (ap (λ (y : Checked). y .number) at ∙ z)) (start .checked .records) (omega (arith, l .some, l .whole)) ∙ sym at in
+        let all = takenAt start (tableOf flat) (start .checked .records) in
+        q ∙ (ap (λ (y : Checked). noPlan (y .number) (y .place)) (sym e) ∙ sym (planned-not all room (λ z. h (sym (ap (λ (y : Checked). y .number) e) ∙ z))))
 
     pub looking-end : (room : ℕ) (p : Plan) → n ≤ i → p ≡ planned (record { checked = x; cntts = cntts }) room → p ≡ planOf text (tableOf flat) count room
     unfolding planOf

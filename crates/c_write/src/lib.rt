@@ -32,6 +32,7 @@ use write_plan::Taken;
 use write_plan::begin;
 use write_plan::look_at_bytes;
 use write_plan::measured;
+use write_plan::no_plan;
 use write_plan::plan_for;
 
 // Row number i looked at as the record that it stands for.
@@ -53,7 +54,7 @@ fn look_at_row(x: Checked, i: usize, row: &[u8], cntts: &mut [u8; 32]) -> Checke
 }
 
 // What writing a text and the first records of a flat table comes to: each record is looked at once.
-// Their Cntts are laid down in one place: passed by value, each record would wait for the one before.
+// Their Cntts are laid down in one place: passed by value, each record would wait for the one before. The first refusal ends it: carried along, it would be looked at with each record.
 fn plan_rows(text: &[u8], flat: &[u8], count: usize, room: usize) -> Plan
     ensures { λ p. ⌜ p ≡ planOf (now (text .entry)) (tableOf (now (flat .entry))) count room ⌝ }
 {
@@ -65,6 +66,9 @@ fn plan_rows(text: &[u8], flat: &[u8], count: usize, room: usize) -> Plan
     while i < n {
         let at = ROW * i;
         x = look_at_row(x, i, &flat[at..at + ROW], &mut cntts);
+        if x.number != 0 {
+            return no_plan(x.number, x.place);
+        }
         i += 1;
     }
     plan_for(

@@ -1,9 +1,10 @@
 -- What may be written: one law for each way out.
-use Prim.Native.Nat.{ℕ, _+_, _*_, _^_, _≤_, _<_}
+use Prim.Native.Nat.{ℕ, zero, suc, _+_, _*_, _^_, _≤_, _<_}
 use mathlib.Core.Path.{_≡_, sym, ap, ap₂, _∙_}
 use mathlib.Core.Bool.{true, false}
 use mathlib.Core.List.{List}
 use native.Mathlib.Omega.{arith}
+use native.Mathlib.Decide.{decLt}
 use lib.Bits.{bitOr}
 use lib.ListN.{length, getD}
 use borrow.Author.Tests.{eq-eqb, ne-eqb, lt-ltb, le-ltb}
@@ -14,14 +15,14 @@ use Rattle.layout.specs.declared.record.SecondTable.{SecondTable}
 use Rattle.layout.specs.declared.record.SecondTable.the-variants.{Absent, Value}
 use Rattle.layout.specs.Plays.{bit}
 use Rattle.layout.specs.Editions.{size, held, alike}
-use Rattle.layout.specs.Records.{recordOf, channelOf, editionOf, secondIn, positionIn, firstBad, laidOut}
+use Rattle.layout.specs.Records.{blank, recordOf, channelOf, editionOf, secondIn, positionIn, firstBad, laidOut}
 use Rattle.layout.specs.Sdec.{soundText}
 use Rattle.layout.specs.Write.{cnttCount}
 use Rattle.layout.proofs.Editions.{alike-is}
 use Rattle.layout.proofs.Records.{ranged, ranged-channel}
 use Rattle.write_plan.specs.declared.Checked.{Checked}
 use Rattle.write_plan.specs.declared.Taken.{Taken}
-use Rattle.write_plan.specs.Checking.{refusedAt, firstChecked, due, chunksSize, secondBy, laidDown, claimed, larger, looked, laidAfter, taken, noPlan, planned}
+use Rattle.write_plan.specs.Checking.{refusedAt, firstChecked, due, chunksSize, secondBy, laidDown, claimed, larger, looked, laidAfter, taken, takenAt, noPlan, planned}
 use Rattle.layout.proofs.BytesBack.{edition-made}
 use Rattle.write_plan.proofs.Made.{channel-made, Alike, laid-alike}
 
@@ -151,6 +152,19 @@ taken-held t i r b e second position y c f g h k w =
     ap₂ {C = Taken} (λ (a : Checked) (l : List ℕ). record { checked = a; cntts = l })
     (w .0 ∙ (ap (looked (t .cntts) (t .checked) i) z ∙ looked-alike (t .cntts) (t .checked) i _ r (laid-alike r)))
     (w .1 ∙ (ap (laidAfter (t .cntts) (t .checked) i) z ∙ after-alike (t .cntts) (t .checked) i _ r (laid-alike r)))
+
+-- a refusal stays, however many records are looked at behind it
+module _ (t : Taken) (rs : List Record) (i : ℕ) (h : takenAt t rs i .checked .number ≡ 0 → ⊥) where
+  pub taken-stays : (n : ℕ) → i ≤ n → takenAt t rs n .checked ≡ takenAt t rs i .checked
+  unfolding takenAt
+  taken-stays zero l = let z : 0 ≡ i = omega arith in ap (λ (k : ℕ). takenAt t rs k .checked) z
+  taken-stays (suc n) l = go (decLt n i) (λ (m : i ≤ n). taken-stays n m)
+    where
+      go : Dec (n < i) → (i ≤ n → takenAt t rs n .checked ≡ takenAt t rs i .checked) → takenAt t rs (suc n) .checked ≡ takenAt t rs i .checked
+      go (yes b) before = let z : suc n ≡ i = omega arith in ap (λ (k : ℕ). takenAt t rs k .checked) z
+      go (no b) before =
+          let e = before (omega arith) in
+          looked-stays (takenAt t rs n .cntts) (takenAt t rs n .checked) n (getD rs n blank) (λ q. h (sym (ap (λ (x : Checked). x .number) e) ∙ q)) ∙ e
 
 module _ (t : Taken) (room : ℕ) where
   pub planned-not : (t .checked .number ≡ 0 → ⊥) → planned t room ≡ noPlan (t .checked .number) (t .checked .place)

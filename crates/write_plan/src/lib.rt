@@ -220,7 +220,7 @@ fn larger_of(a: usize, b: usize) -> usize
 
 // Record number i, of an edition, whose bytes stand at the start of b: another edition than the first's, its first byte out of range, then a source channel that an earlier record has.
 // Where it is accepted, its Cntt is laid down at its position. A refusal stays.
-pub fn look_at_bytes(
+fn look_at_known(
     x: Checked,
     i: usize,
     edition: Edition,
@@ -265,6 +265,27 @@ pub fn look_at_bytes(
     }
 }
 
+// The same, the edition told apart here, so that what goes by it is a number for either; a Ctb2 has no Cntt.
+pub fn look_at_bytes(
+    x: Checked,
+    i: usize,
+    edition: Edition,
+    b: &[u8],
+    second: SecondTable,
+    position: u8,
+    cntts: &mut [u8; 32],
+) -> Checked
+    requires { ⌜ (held edition ≤ length (now b)) × Looking x i ⌝ }
+    ensures { λ y. ⌜ (y ≡ looked (now (cntts .entry)) x i (recordOf edition (now (b .entry)) second position)) × (now (cntts .exit) ≡ laidAfter (now (cntts .entry)) x i (recordOf edition (now (b .entry)) second position)) ⌝ }
+{
+    match edition {
+        Edition::First => { look_at_known(x, i, Edition::First, b, second, position, cntts) }
+        Edition::Second => {
+            look_at_known(x, i, Edition::Second, b, SecondTable::Absent, 0, cntts)
+        }
+    }
+}
+
 // Record number i, in memory.
 pub fn look_at(x: Taken, i: usize, r: Record) -> Taken
     requires { ⌜ Looking (x .checked) i ⌝ }
@@ -283,7 +304,8 @@ pub fn look_at(x: Taken, i: usize, r: Record) -> Taken
     }
 }
 
-fn no_plan(number: u8, place: usize) -> Plan
+// A plan that refuses.
+pub fn no_plan(number: u8, place: usize) -> Plan
     ensures { λ r. ⌜ r ≡ noPlan number place ⌝ }
 {
     Plan {

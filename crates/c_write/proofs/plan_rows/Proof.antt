@@ -1,7 +1,7 @@
 -- After i turns x is what the first i records come to; i goes up to their number.
 use Prim.Native.Nat.{_-_}
 use native.Mathlib.Omega.{arith}
-use Rattle.c_write.proofs.Taking.{Looking, looking-start, looking-lent, looking-on, looking-next, looking-end, row-there}
+use Rattle.c_write.proofs.Taking.{Looking, looking-start, looking-lent, looking-on, looking-next, looking-refused, looking-end, row-there}
 use borrow.Author.Needs.{needs}
 use Rattle.c_write.proofs.plan_rows.Statement.{statement}
 use Rattle.c_write.proofs.plan_rows.Tie as tie
@@ -30,12 +30,26 @@ look-at-row-requires c κs =
     let l = looking-lent _ _ _ _ _ _ _ inv in
     (search needs, looking-on _ _ _ _ _ _ _ inv (omega (arith, l)))
 
+-- the records with the one just looked at, which is refused
+returns : tie.Need-returns Inv-loop μ-loop
+returns c =
+    let l = c .before .before .before in
+    looking-refused _ _ _ _ _ _ _ (looking-next _ _ _ _ _ _ _ (l .before .before .before .before .loop .inv) _ _ _ (search needs) (search row-there) (l .look-at-row .ensures)) _ _ (c .before .if1 .taken) (c .no-plan .ensures)
+
+-- .. or is not
+add-i : tie.Need-add-i Inv-loop μ-loop
+add-i c =
+    let turn = c .before .before .before .before .before in
+    let l = looking-lent _ _ _ _ _ _ _ (turn .before .loop .inv) in
+    omega (arith, l, turn .loop-test)
+
 loop-again : tie.Need-loop-again Inv-loop μ-loop
 loop-again c =
-    looking-next _ _ _ _ _ _ _ (c .before .before .before .before .loop .inv) _ _ _ (search needs) (search row-there) (c .look-at-row .ensures)
+    let l = c .before .before in
+    looking-next _ _ _ _ _ _ _ (l .before .before .before .before .loop .inv) _ _ _ (search needs) (search row-there) (l .look-at-row .ensures)
 
-returns : tie.Need-returns Inv-loop μ-loop
-returns c = looking-end _ _ _ _ _ _ _ (c .before .before .loop .inv) _ _ (search needs) (c .plan-for .ensures)
+returns-2 : tie.Need-returns-2 Inv-loop μ-loop
+returns-2 c = looking-end _ _ _ _ _ _ _ (c .before .before .loop .inv) _ _ (search needs) (c .plan-for .ensures)
 
 pub plan-rows-spec : {M : Type 1} → statement M
 plan-rows-spec =
@@ -52,8 +66,10 @@ plan-rows-spec =
     (λ c. search needs)
     part-look-at-row-end
     look-at-row-requires
-    (λ c. search needs)
+    (λ c κs. search needs)
+    returns
+    add-i
     (λ c. search needs)
     loop-again
     (λ c κs. search needs)
-    returns)
+    returns-2)
