@@ -3,10 +3,13 @@ ghost use mathlib.Core.Path.{_≡_};
 ghost use Prim.Native.Nat.{_+_, _≤_, _<_};
 ghost use lib.ListN.{length};
 ghost use Rattle.layout.specs.declared.edition.Edition.the-variants.{First};
+ghost use Rattle.layout.specs.Editions.{size};
 ghost use Rattle.layout.specs.Ranges.{outOf, firstOut};
+use crate::columns::first_out_part;
+use crate::columns::is_out_by;
 use layout::size::RECORD;
 
-// The lowest and the highest value of each byte of a Ctab.
+// The lowest and the highest value of each byte of a Ctab; no byte is judged by the one before it.
 const CTAB_LOWEST: [u8; RECORD] = [
     0x00,
     0x00,
@@ -67,37 +70,58 @@ const CTAB_HIGHEST: [u8; RECORD] = [
     0x00,
 ];
 
-// The first of the n bytes of a Ctab from `at` that is out of its range, or n where none is.
-// The table is copied before the loop: indexed where it stands it would be built anew at each turn.
+const CTAB_RULED: [bool; RECORD] = [
+    false,
+    false,
+    false,
+    false,
+    false,
+    false,
+    false,
+    false,
+    false,
+    false,
+    false,
+    false,
+    false,
+    false,
+    false,
+    false,
+    false,
+    false,
+    false,
+    false,
+    false,
+    false,
+    false,
+    false,
+    false,
+    false,
+    false,
+];
+
+// The first of the n bytes of the Ctab at `at` that is out of its range, or n where none is: in memory its last byte is not held.
 pub fn first_out_ctab(s: &[u8], at: usize, n: usize) -> usize
-    requires { ⌜ (n ≤ 27) × (at + n ≤ length (now s)) ⌝ }
+    requires { ⌜ (13 ≤ n) × ((n ≤ size First) × (at + n ≤ length (now s))) ⌝ }
     ensures { λ r. ⌜ r ≡ firstOut First (now (s .entry)) at n ⌝ }
 {
     let low = CTAB_LOWEST;
     let high = CTAB_HIGHEST;
-    let mut k: usize = 0;
-    while k < n {
-        let b = s[at + k];
-        if b < low[k] {
-            return k;
-        }
-        if high[k] < b {
-            return k;
-        }
-        k += 1;
+    let ruled = CTAB_RULED;
+    let a = first_out_part(&low, &high, &ruled, s, at, 0, 13);
+    if a < 13 {
+        return a;
     }
-    n
+    first_out_part(&low, &high, &ruled, s, at, 13, n)
 }
 
 // Whether a value is out of the range of byte k of a Ctab.
 pub fn is_out_ctab(k: usize, rule: u8, v: u8) -> bool
-    requires { ⌜ k < 27 ⌝ }
+    requires { ⌜ k < size First ⌝ }
     ensures { λ r. ⌜ r ≡ outOf First k rule v ⌝ }
 {
     let low = CTAB_LOWEST;
-    if v < low[k] {
-        return true;
-    }
     let high = CTAB_HIGHEST;
-    high[k] < v
+    let ruled = CTAB_RULED;
+    is_out_by(&low, &high, &ruled, k, rule, v)
 }

@@ -1,4 +1,5 @@
 // The one table of ranges of each edition, for reader, writer and screen, and the values of a Cntt (document 01, "The CASM body").
+pub mod columns;
 pub mod ctab;
 pub mod ctb2;
 
@@ -14,7 +15,6 @@ use crate::ctb2::is_out_ctb2;
 use layout::edition::Edition;
 use layout::size::HELD;
 use layout::size::RECORD;
-use layout::size::SECOND_RECORD;
 
 // The first byte of the record of an edition at `at` that is out of its range, or its size where none is.
 // How many bytes are looked at is a number of the edition: passed on, it would keep the table from being folded into the loop.
@@ -24,7 +24,7 @@ pub fn first_out(edition: Edition, s: &[u8], at: usize) -> usize
 {
     match edition {
         Edition::First => first_out_ctab(s, at, RECORD),
-        Edition::Second => first_out_ctb2(s, at, SECOND_RECORD),
+        Edition::Second => first_out_ctb2(s, at),
     }
 }
 
@@ -35,7 +35,7 @@ pub fn first_out_held(edition: Edition, b: &[u8]) -> usize
 {
     match edition {
         Edition::First => first_out_ctab(b, 0, HELD),
-        Edition::Second => first_out_ctb2(b, 0, SECOND_RECORD),
+        Edition::Second => first_out_ctb2(b, 0),
     }
 }
 

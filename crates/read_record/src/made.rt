@@ -33,7 +33,7 @@ fn set_at(b: &[u8], at: usize) -> Set
 
 // Bytes 40-46.
 fn tail_at(b: &[u8]) -> Tail
-    requires { ⌜ 47 ≤ length (now b) ⌝ }
+    requires { ⌜ held Second ≤ length (now b) ⌝ }
     ensures { λ t. ⌜ t ≡ tailAt (now (b .entry)) ⌝ }
 {
     Tail(b[40], b[41], b[42], b[43], b[44], b[45], b[46])
@@ -59,7 +59,7 @@ fn record_with(b: &[u8], form: Form) -> Record
 
 // The record of a Ctab whose bytes 0-25 stand at the start of b, with its Cntt and the Cntt's position.
 fn ctab_of(b: &[u8], second: SecondTable, position: u8) -> Record
-    requires { ⌜ 26 ≤ length (now b) ⌝ }
+    requires { ⌜ held First ≤ length (now b) ⌝ }
     ensures { λ r. ⌜ r ≡ recordOf First (now (b .entry)) second position ⌝ }
 {
     let set = set_at(b, 20);
@@ -74,7 +74,7 @@ fn ctab_of(b: &[u8], second: SecondTable, position: u8) -> Record
 
 // The record of a Ctb2 whose bytes stand at the start of b.
 fn ctb2_of(b: &[u8], second: SecondTable, position: u8) -> Record
-    requires { ⌜ 47 ≤ length (now b) ⌝ }
+    requires { ⌜ held Second ≤ length (now b) ⌝ }
     ensures { λ r. ⌜ r ≡ recordOf Second (now (b .entry)) second position ⌝ }
 {
     let low = set_at(b, 22);

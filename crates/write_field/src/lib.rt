@@ -4,12 +4,12 @@ use layout::answer::Changed;
 use layout::record::Record;
 use layout::refusal::BAD_NUMBER;
 use layout::refusal::OUT_OF_RANGE;
+use read_ranges::columns::rule_before;
 use read_ranges::is_out;
 use read_record::bytes::bytes_of;
 use read_record::edition::held_of;
 use read_record::held::edition_of;
 use read_record::held::position_of;
-use read_record::held::rule_before;
 use read_record::held::second_of;
 use read_record::made::record_of;
 
@@ -28,7 +28,7 @@ pub fn set_field(r: Record, index: usize, value: u8) -> Changed
     }
     let mut b = bytes_of(r);
     // A table is judged by the rule that the record then has.
-    let rule = rule_before(&b, index);
+    let rule = rule_before(&b, 0, index);
     if is_out(edition, index, rule, value) {
         return Changed {
             number: OUT_OF_RANGE,

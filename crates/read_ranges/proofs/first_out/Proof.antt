@@ -13,10 +13,10 @@ within : (e f : Edition) (at n : ℕ) → e ≡ f → at + size e ≤ n → at +
 within e f at n h l = subst (λ (x : Edition). at + size x ≤ n) h l
 
 first-out-ctab-requires : tie.Need-first-out-ctab-requires
-first-out-ctab-requires c κs = (omega arith, within _ First _ _ (c .enum-told .given .1) (c .before .before .before .pre))
+first-out-ctab-requires c κs = (omega arith, (omega arith, within _ First _ _ (c .enum-told .given .1) (c .before .before .before .pre)))
 
 first-out-ctb2-requires : tie.Need-first-out-ctb2-requires
-first-out-ctb2-requires c κs = (omega arith, within _ Second _ _ (c .enum-told2 .given .1) (c .before .before .before .pre))
+first-out-ctb2-requires c κs = within _ Second _ _ (c .enum-told2 .given .1) (c .before .before .before .pre)
 
 returns : tie.Need-returns
 returns c = rw (c .before .enum-told .given .1) (c .first-out-ctab .ensures)

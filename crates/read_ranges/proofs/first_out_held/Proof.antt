@@ -7,10 +7,10 @@ use Rattle.read_ranges.proofs.first_out_held.Statement.{statement}
 use Rattle.read_ranges.proofs.first_out_held.Tie as tie
 
 first-out-ctab-requires : tie.Need-first-out-ctab-requires
-first-out-ctab-requires c κs = (omega arith, held-of _ First _ (c .enum-told .given .1) (c .before .before .before .pre))
+first-out-ctab-requires c κs = (omega arith, (omega arith, held-of _ First _ (c .enum-told .given .1) (c .before .before .before .pre)))
 
 first-out-ctb2-requires : tie.Need-first-out-ctb2-requires
-first-out-ctb2-requires c κs = (omega arith, held-of _ Second _ (c .enum-told2 .given .1) (c .before .before .before .pre))
+first-out-ctb2-requires c κs = held-of _ Second _ (c .enum-told2 .given .1) (c .before .before .before .pre)
 
 returns : tie.Need-returns
 returns c = rw (c .before .enum-told .given .1) (c .first-out-ctab .ensures)

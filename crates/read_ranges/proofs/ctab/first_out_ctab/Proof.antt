@@ -1,63 +1,34 @@
--- What is still to be looked at is the whole search from byte k on; k goes up.
-use Prim.Native.Nat.{_-_, _≤_}
-use mathlib.Core.Path.{_≡_, refl, sym, _∙_}
+-- The two parts one after the other, by the columns of the edition's table.
 use native.Mathlib.Omega.{arith}
-use borrow.Author.Needs.{needs}
-use Rattle.layout.specs.Scan.{first}
 use Rattle.layout.specs.declared.edition.Edition.the-variants.{First}
-use Rattle.layout.specs.Ranges.{ranges, commonRanges, setRanges, outAt, firstOut}
-use Rattle.layout.proofs.Scans.{first-end, first-here, first-next}
-use Rattle.layout.proofs.Outs.{lows, highs, out-below, out-above, out-first, at-place}
+use Rattle.layout.specs.Ranges.{ranges, commonRanges, setRanges}
+use Rattle.layout.proofs.Outs.{lows, highs, ruleds}
+use borrow.Author.Needs.{needs}
+use Rattle.read_ranges.proofs.Judging.{from-start, from-here, from-next, from-end}
 use Rattle.read_ranges.proofs.ctab.first_out_ctab.Statement.{statement}
 use Rattle.read_ranges.proofs.ctab.first_out_ctab.Tie as tie
 
-abbrev Inv-loop : tie.InvT-loop
-Inv-loop s at n low high k₀ k = (k ≤ n) × (firstOut First s at n ≡ first (outAt First s at) k n)
+returns : tie.Need-returns
+unfolding lows highs ruleds ranges commonRanges setRanges
+returns c = from-here First _ _ _ 0 (from-start First _ _ _) _ 13 (omega arith) (omega arith) (c .before .first-out-part .ensures) (omega arith)
 
-abbrev μ-loop : tie.MeasureT-loop
-μ-loop s at n low high k₀ k = n - k
-
-loop-holds : tie.Need-loop-holds Inv-loop μ-loop
-unfolding firstOut
-loop-holds c = (search needs, refl)
-
-returns : tie.Need-returns Inv-loop μ-loop
-unfolding lows highs ranges commonRanges setRanges
-returns c =
-    let l = c .before .before .before .loop in
-    sym (l .inv .1 ∙ first-here _ _ _ (omega arith) (at-place First _ _ _ _ _ refl (out-below First _ _ _ (omega arith))))
-
-returns-2 : tie.Need-returns-2 Inv-loop μ-loop
-unfolding lows highs ranges commonRanges setRanges
+returns-2 : tie.Need-returns-2
+unfolding lows highs ruleds ranges commonRanges setRanges
 returns-2 c =
-    let l = c .before .before .before .before .loop in
-    sym (l .inv .1 ∙ first-here _ _ _ (omega arith) (at-place First _ _ _ _ _ refl (out-above First _ _ _ (omega arith) (omega arith))))
-
-loop-again : tie.Need-loop-again Inv-loop μ-loop
-unfolding lows highs ranges commonRanges setRanges
-loop-again c =
-    let l = c .before .before .before .before .loop in
-    (omega arith, l .inv .1 ∙ first-next _ _ _ (omega arith) (at-place First _ _ _ _ _ refl (out-first _ _ _ (omega arith) (omega arith))))
-
-returns-3 : tie.Need-returns-3 Inv-loop μ-loop
-returns-3 c =
-    let l = c .before .loop in
-    sym (l .inv .1 ∙ (first-end _ _ _ (omega arith) ∙ omega arith))
+    let past = c .before .before .before .before in
+    from-end First _ _ _ 13 (from-next First _ _ _ 0 (from-start First _ _ _) _ 13 (omega arith) (omega arith) (past .before .first-out-part .ensures) (omega arith)) _ (c .first-out-part2 .ensures)
 
 pub first-out-ctab-spec : {M : Type 1} → statement M
 first-out-ctab-spec =
     tie.close
     (tie.spec
-    Inv-loop
-    μ-loop
-    loop-holds
     (λ c. search needs)
     (λ c. search needs)
     (λ c. search needs)
+    (λ c κs. search needs)
     returns
     (λ c. search needs)
-    returns-2
     (λ c. search needs)
     (λ c. search needs)
-    loop-again
-    returns-3)
+    (λ c κs. search needs)
+    returns-2)

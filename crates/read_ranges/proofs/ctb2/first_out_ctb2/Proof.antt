@@ -1,72 +1,61 @@
--- What is still to be looked at is the whole search from byte k on, and `rule` is the byte before it; k goes up.
-use Prim.Native.Nat.{_-_, _≤_}
-use mathlib.Core.Path.{_≡_, refl, sym, _∙_}
+-- The four parts one after the other, by the columns of the edition's table.
+use Prim.Native.Nat.{ℕ}
 use native.Mathlib.Omega.{arith}
-use borrow.Author.Needs.{needs}
-use Rattle.layout.specs.Scan.{first}
 use Rattle.layout.specs.declared.edition.Edition.the-variants.{Second}
-use Rattle.layout.specs.Ranges.{ranges, commonRanges, setRanges, ruleAt, outAt, firstOut}
-use Rattle.layout.proofs.Scans.{first-end, first-here, first-next}
-use Rattle.layout.proofs.Outs.{lows, highs, ruleds, out-below, out-above, out-rest, rule-next, at-place}
+use Rattle.layout.specs.Ranges.{ranges, commonRanges, setRanges}
+use Rattle.layout.proofs.Outs.{lows, highs, ruleds}
+use borrow.Author.Needs.{needs}
+use Rattle.read_ranges.proofs.Judging.{From, from-start, from-here, from-next, from-end}
 use Rattle.read_ranges.proofs.ctb2.first_out_ctb2.Statement.{statement}
 use Rattle.read_ranges.proofs.ctb2.first_out_ctb2.Tie as tie
 
-abbrev Inv-loop : tie.InvT-loop
-Inv-loop s at n low high ruled rule₀ k₀ rule k = (k ≤ n) × ((rule ≡ ruleAt s at k) × (firstOut Second s at n ≡ first (outAt Second s at) k n))
-
-abbrev μ-loop : tie.MeasureT-loop
-μ-loop s at n low high ruled rule₀ k₀ rule k = n - k
-
-loop-holds : tie.Need-loop-holds Inv-loop μ-loop
-unfolding firstOut ruleAt
-loop-holds c = (search needs, (refl, refl))
-
-returns : tie.Need-returns Inv-loop μ-loop
-unfolding lows highs ranges commonRanges setRanges
-returns c =
-    let l = c .before .before .before .loop in
-    sym (l .inv .1 .1 ∙ first-here _ _ _ (omega arith) (at-place Second _ _ _ _ _ (l .inv .1 .0) (out-below Second _ _ _ (omega arith))))
-
-returns-2 : tie.Need-returns-2 Inv-loop μ-loop
-unfolding lows highs ranges commonRanges setRanges
-returns-2 c =
-    let l = c .before .before .before .before .loop in
-    sym (l .inv .1 .1 ∙ first-here _ _ _ (omega arith) (at-place Second _ _ _ _ _ (l .inv .1 .0) (out-above Second _ _ _ (omega arith) (omega arith))))
-
-returns-3 : tie.Need-returns-3 Inv-loop μ-loop
+returns : tie.Need-returns
 unfolding lows highs ruleds ranges commonRanges setRanges
-returns-3 c =
-    let l = c .before .before .before .before .before .before .loop in
-    sym (l .inv .1 .1 ∙ first-here _ _ _ (omega arith) (at-place Second _ _ _ _ _ (l .inv .1 .0) (out-rest Second _ _ _ (omega arith) (omega arith) ∙ (sym (c .before .is-barred .ensures) ∙ c .if3 .taken))))
+returns c = from-here Second _ _ _ 0 (from-start Second _ _ _) _ 12 (omega arith) (omega arith) (c .before .first-out-part .ensures) (omega arith)
 
-loop-again : tie.Need-loop-again Inv-loop μ-loop
+past-12 : (c : tie.Else1) → let a = c .before .before .before .before .before .before .args in From Second (a .s .now) (a .at) 47 12
 unfolding lows highs ruleds ranges commonRanges setRanges
-loop-again c =
-    let l = c .before .before .before .before .before .before .loop in
-    (omega arith, (rule-next _ _ _ _ refl, l .inv .1 .1 ∙ first-next _ _ _ (omega arith) (at-place Second _ _ _ _ _ (l .inv .1 .0) (out-rest Second _ _ _ (omega arith) (omega arith) ∙ (sym (c .before .is-barred .ensures) ∙ c .if3 .left)))))
+past-12 c = from-next Second _ _ _ 0 (from-start Second _ _ _) _ 12 (omega arith) (omega arith) (c .before .first-out-part .ensures) (omega arith)
 
-returns-4 : tie.Need-returns-4 Inv-loop μ-loop
+returns-2 : tie.Need-returns-2
+unfolding lows highs ruleds ranges commonRanges setRanges
+returns-2 c = from-here Second _ _ _ 12 (past-12 (c .before .before .before .before .before)) _ 24 (omega arith) (omega arith) (c .before .first-out-part2 .ensures) (omega arith)
+
+past-24 : (c : tie.Else2) → let a = c .before .before .before .before .before .before .before .before .before .before .before .args in From Second (a .s .now) (a .at) 47 24
+unfolding lows highs ruleds ranges commonRanges setRanges
+past-24 c = from-next Second _ _ _ 12 (past-12 (c .before .before .before .before .before)) _ 24 (omega arith) (omega arith) (c .before .first-out-part2 .ensures) (omega arith)
+
+returns-3 : tie.Need-returns-3
+unfolding lows highs ruleds ranges commonRanges setRanges
+returns-3 c = from-here Second _ _ _ 24 (past-24 (c .before .before .before .before .before)) _ 36 (omega arith) (omega arith) (c .before .first-out-part3 .ensures) (omega arith)
+
+returns-4 : tie.Need-returns-4
+unfolding lows highs ruleds ranges commonRanges setRanges
 returns-4 c =
-    let l = c .before .loop in
-    sym (l .inv .1 .1 ∙ (first-end _ _ _ (omega arith) ∙ omega arith))
+    let past = c .before .before .before .before in
+    from-end Second _ _ _ 36 (from-next Second _ _ _ 24 (past-24 (past .before .before .before .before .before)) _ 36 (omega arith) (omega arith) (past .before .first-out-part3 .ensures) (omega arith)) _ (c .first-out-part4 .ensures)
 
 pub first-out-ctb2-spec : {M : Type 1} → statement M
 first-out-ctb2-spec =
     tie.close
     (tie.spec
-    Inv-loop
-    μ-loop
-    loop-holds
     (λ c. search needs)
     (λ c. search needs)
     (λ c. search needs)
+    (λ c κs. search needs)
     returns
     (λ c. search needs)
+    (λ c. search needs)
+    (λ c. search needs)
+    (λ c κs. search needs)
     returns-2
+    (λ c. search needs)
+    (λ c. search needs)
     (λ c. search needs)
     (λ c κs. search needs)
     returns-3
     (λ c. search needs)
     (λ c. search needs)
-    loop-again
+    (λ c. search needs)
+    (λ c κs. search needs)
     returns-4)

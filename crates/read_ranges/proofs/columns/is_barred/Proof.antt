@@ -1,7 +1,7 @@
 use borrow.Author.Tests.{not-true, not-false}
 use Rattle.layout.proofs.Outs.{bar-none, bar-is, table-under-two, table-else}
-use Rattle.read_ranges.proofs.ctb2.is_barred.Statement.{statement}
-use Rattle.read_ranges.proofs.ctb2.is_barred.Tie as tie
+use Rattle.read_ranges.proofs.columns.is_barred.Statement.{statement}
+use Rattle.read_ranges.proofs.columns.is_barred.Tie as tie
 
 returns : tie.Need-returns
 returns c =
