@@ -1,5 +1,7 @@
 // The sizes of document 01, in bytes.
 
+// The headers of a group and of its Sdec, before the text.
+pub const HEADERS: usize = 16;
 // A record in the file, and of it what is held in memory.
 pub const RECORD: usize = 27;
 

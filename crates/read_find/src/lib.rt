@@ -15,6 +15,7 @@ ghost use Rattle.read_find.specs.Find.{numbered, groupLocated, partLocat
 use layout::answer::Standing;
 use layout::edition::Edition;
 use layout::limit::GROUPS;
+use layout::size::HEADERS;
 use layout::turn::Run;
 use read_body::survey::read_groups;
 use read_record::edition::ctab_place;
@@ -45,13 +46,13 @@ fn standing_at(s: &[u8], at: usize, edition: Edition, records: u8, seconds: u8) 
     ensures { λ r. ⌜ r ≡ standingAt (now (s .entry)) at (groupAt (drop at (now (s .entry)))) ⌝ }
 {
     let length = read_bytes::word_at(s, at + 12);
-    let ctabs = at + 16 + length;
+    let ctabs = at + HEADERS + length;
     let n = records as usize;
     Standing {
         edition: edition,
         at: at,
         size: 8 + read_bytes::word_at(s, at + 4),
-        text: at + 16,
+        text: at + HEADERS,
         length: length,
         ctabs: ctabs,
         records: n,

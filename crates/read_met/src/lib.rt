@@ -11,6 +11,7 @@ ghost use Rattle.layout.specs.Scan.{first};
 ghost use Rattle.read_met.specs.Table.{lookedAt};
 ghost use Rattle.read_met.specs.Before.{Places, Marks, again, againIn, NameMet, NamedBefore};
 use layout::limit::GROUPS;
+use layout::size::HEADERS;
 use table::ALL;
 use table::LOWER;
 use table::UPPER;
@@ -33,7 +34,7 @@ fn text_of<'a>(s: &'a [u8], places: &[u16; GROUPS], k: usize) -> &'a [u8]
     requires { ⌜ (k < 32) × Places (now s) (k + 1) (now places) ⌝ }
     ensures { λ r. ⌜ now r ≡ textAt (now (s .entry)) (groupPlace (now (s .entry)) k) ⌝ }
 {
-    let start = wide(places[k]) + 16;
+    let start = wide(places[k]) + HEADERS;
     let end = start + read_bytes::word_at(s, start - 4);
     &s[start..end]
 }

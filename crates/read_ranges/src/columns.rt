@@ -6,6 +6,7 @@ ghost use lib.ListN.{length};
 ghost use Rattle.layout.specs.Scan.{first};
 ghost use Rattle.layout.specs.Ranges.{soundTable, ruleAt};
 ghost use Rattle.read_ranges.specs.Judging.{outBy, outStanding};
+use layout::rule::THIRD;
 
 // Whether a byte that is a table, if it is one, is barred by the rule before it: 00-0A, or 00-02 under rule 2, each with or without bit 7.
 fn is_barred(ruled: bool, rule: u8, v: u8) -> bool
@@ -14,7 +15,7 @@ fn is_barred(ruled: bool, rule: u8, v: u8) -> bool
     if !ruled {
         return false;
     }
-    if rule == 2 {
+    if rule == THIRD {
         return 0x02 < v % 128;
     }
     0x0A < v % 128

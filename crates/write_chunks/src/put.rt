@@ -6,6 +6,7 @@ ghost use lib.ListN.{length, drop};
 ghost use Rattle.layout.specs.Bytes.{four};
 ghost use Rattle.layout.specs.Editions.{size, held, closing};
 use layout::edition::Edition;
+use layout::size::HELD;
 
 // These bytes.
 pub fn put_bytes(out: &mut [u8], b: &[u8])
@@ -42,7 +43,7 @@ pub fn put_held(edition: Edition, out: &mut [u8], b: &[u8])
     put_bytes(out, b);
     match edition {
         Edition::First => {
-            out[26] = 0;
+            out[HELD] = 0;
         }
         Edition::Second => {}
     }

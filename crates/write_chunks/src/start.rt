@@ -8,6 +8,7 @@ ghost use Rattle.write_plan.specs.Checking.{startPlace, startBytes};
 ghost use Rattle.write_plan.specs.Chunks.{framed};
 use crate::chunks::put_front;
 use crate::places::put_cntts;
+use layout::size::HEADERS;
 use read_record::edition::ctab_place;
 use write_plan::Plan;
 
@@ -20,7 +21,7 @@ fn put_start(out: &mut [u8], text: &[u8], p: Plan) -> usize
         return 0;
     }
     put_front(out, text, p.length - 8);
-    16 + text.len()
+    HEADERS + text.len()
 }
 
 // The group's start, and its Cntts behind the room of its Ctabs. Answers the place of the Ctabs. A plan that refuses writes nothing.

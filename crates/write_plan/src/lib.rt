@@ -20,6 +20,7 @@ use layout::refusal::OTHER_EDITION;
 use layout::refusal::OUT_OF_RANGE;
 use layout::size::CNTT_BYTES;
 use layout::size::CNTT_STRIDE;
+use layout::size::HEADERS;
 use layout::size::RECORD;
 use layout::size::SECOND_RECORD;
 use read_record::bytes::bytes_of;
@@ -92,7 +93,7 @@ fn first_checked(text: &[u8], lent: usize, count: usize) -> Checked
         place: 0,
         records: count,
         edition: Edition::First,
-        length: 16 + text.len(),
+        length: HEADERS + text.len(),
         seen: 0,
         seconds: 0,
         reach: 0,
