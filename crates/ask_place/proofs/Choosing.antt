@@ -1,57 +1,59 @@
 -- The set that places a note and its effective table: one law for each way out, and what no bad byte means for them.
 use Prim.Native.Nat.{ℕ, _≤_, _<_}
-use mathlib.Core.Path.{_≡_, sym, subst}
+use mathlib.Core.Path.{_≡_, sym, ap, _∙_}
 use mathlib.Core.Bool.{Bool, true, false, cond}
-use mathlib.Core.List.{_++_}
+use mathlib.Core.List.{List, _++_}
 use native.Mathlib.Omega.{arith}
 use borrow.Author.Tests.{lt-ltb, le-ltb}
 use lib.Dec.{ltb}
 use lib.ListN.{getD}
+use Rattle.layout.specs.declared.edition.Edition.{Edition}
+use Rattle.layout.specs.declared.edition.Edition.the-variants.{First, Second}
+use Rattle.layout.specs.declared.record.SecondTable.{SecondTable}
+use Rattle.layout.specs.declared.record.SecondTable.the-variants.{Absent}
 use Rattle.layout.specs.declared.record.Set.{Set}
-use Rattle.layout.specs.declared.record.Single.{Single}
 use Rattle.layout.specs.declared.record.Triple.{Triple}
 use Rattle.layout.specs.declared.record.Form.{Form}
 use Rattle.layout.specs.declared.record.Form.the-variants.{One, Three}
 use Rattle.layout.specs.declared.record.Record.{Record}
 use Rattle.layout.specs.Editions.{held}
 use Rattle.layout.specs.Ranges.{ranges, commonRanges, setRanges}
-use Rattle.layout.specs.Records.{bytesOf, headBytes, formBytes, setBytes, tailBytes, tripleBytes, formEdition, editionOf, firstBad}
-use Rattle.layout.specs.Place.{effective, setFor, tableFor}
+use Rattle.layout.specs.Records.{bytesOf, headBytes, formBytes, setBytes, tailBytes, tripleBytes, setAt, formOf, recordWith, recordOf, formEdition, editionOf, firstBad}
+use Rattle.layout.specs.Place.{noteCount, effective, setFor, tableFor}
 use Rattle.layout.proofs.Outs.{highs}
+use Rattle.layout.proofs.BytesBack.{edition-made}
 use Rattle.read_record.proofs.BadBytes.{in-its-range}
 
--- ---- the set of a Ctb2
+-- ---- the set of a Ctb2, where its bytes stand
 
-module _ (x : Triple) (n : ℕ) where
-  pub set-low : n < x .from → x .low ≡ setFor (Three x) n
-  unfolding setFor
-  set-low h = sym (rw (lt-ltb n (x .from) h))
+module _ (b : List ℕ) (n : ℕ) where
+  pub set-low : n < getD b 20 0 → setAt b 22 ≡ setFor (formOf Second b Absent 0) n
+  unfolding setFor formOf
+  set-low h = sym (rw (lt-ltb n (getD b 20 0) h))
 
-  pub set-high : x .from ≤ n → x .to < n → x .high ≡ setFor (Three x) n
-  unfolding setFor
-  set-high h l = sym (rw (le-ltb n (x .from) h, lt-ltb (x .to) n l))
+  module _ (h : getD b 20 0 ≤ n) where
+    pub set-high : getD b 21 0 < n → setAt b 34 ≡ setFor (formOf Second b Absent 0) n
+    unfolding setFor formOf
+    set-high l = sym (rw (le-ltb n (getD b 20 0) h, lt-ltb (getD b 21 0) n l))
 
-  pub set-middle : x .from ≤ n → n ≤ x .to → x .middle ≡ setFor (Three x) n
-  unfolding setFor
-  set-middle h l = sym (rw (le-ltb n (x .from) h, le-ltb (x .to) n l))
+    pub set-middle : n ≤ getD b 21 0 → setAt b 28 ≡ setFor (formOf Second b Absent 0) n
+    unfolding setFor formOf
+    set-middle l = sym (rw (le-ltb n (getD b 20 0) h, le-ltb (getD b 21 0) n l))
 
--- ---- the form that a match found
+-- ---- the set of a Ctab, and the effective table of either
 
-module _ (form : Form) (n : ℕ) where
-  pub set-of-one : (x : Single) → form ≡ One x → x .set ≡ setFor form n
-  unfolding setFor
-  set-of-one x e = rw e
+module _ (b : List ℕ) (second : SecondTable) (n : ℕ) (s : Set) where
+  pub set-of-ctab : s ≡ setAt b 20 → s ≡ setFor (formOf First b second 0) n
+  unfolding setFor formOf
+  set-of-ctab h = h
 
-  pub set-of-three : (x : Triple) (s : Set) → form ≡ Three x → s ≡ setFor (Three x) n → s ≡ setFor form n
-  set-of-three x s e h = rw (e, h)
+  pub table-of-ctab : s ≡ setAt b 20 → (t : ℕ) → t ≡ effective second (s .table) → t ≡ tableFor (formOf First b second 0) n
+  unfolding tableFor formOf
+  table-of-ctab h t e = e ∙ ap (λ (x : Set). effective second (x .table)) h
 
-  pub table-of-one : (x : Single) (t : ℕ) → form ≡ One x → t ≡ effective (x .second) (x .set .table) → t ≡ tableFor form n
-  unfolding tableFor
-  table-of-one x t e h = rw (e, h)
-
-  pub table-of-three : (x : Triple) (s : Set) → form ≡ Three x → s ≡ setFor (Three x) n → s .table ≡ tableFor form n
-  unfolding tableFor
-  table-of-three x s e h = rw (e, h)
+  pub table-of-ctb2 : s ≡ setFor (formOf Second b second 0) n → s .table ≡ tableFor (formOf Second b second 0) n
+  unfolding tableFor formOf
+  table-of-ctb2 h = ap (λ (x : Set). x .table) h
 
 -- ---- a record with no bad byte
 
@@ -75,22 +77,37 @@ unfolding headBytes formBytes setBytes tripleBytes tailBytes formEdition highs r
 high-within r (One x) n h = h 24 (omega arith)
 high-within r (Three x) n h = chosen (λ s. s .high ≤ 127) (ltb n (x .from)) (ltb (x .to) n) x (h 26 (omega arith)) (h 38 (omega arith)) (h 32 (omega arith))
 
-table-within : (r : Record) (f : Form) (x : Single) → f ≡ One x → Within r f → x .set .table ≤ 5
-unfolding headBytes formBytes setBytes formEdition highs ranges commonRanges setRanges
-table-within r f x e h = subst (Within r) e h 21 (omega arith)
+table-within : (r : Record) (b : List ℕ) (second : SecondTable) → Within r (formOf First b second 0) → setAt b 20 .table ≤ 5
+unfolding headBytes formBytes setBytes formOf formEdition highs ranges commonRanges setRanges
+table-within r b second h = h 21 (omega arith)
 
 module _ (r : Record) (h : held (editionOf r) ≤ firstBad r) where
   within : Within r (r .form)
   unfolding bytesOf
   within k l = in-its-range r k h l
 
-  -- the limits of each set are notes ..
+  -- the limits of each set are notes
   pub low-is-a-note : (n : ℕ) → setFor (r .form) n .low ≤ 127
   low-is-a-note n = low-within r (r .form) n within
 
   pub high-is-a-note : (n : ℕ) → setFor (r .form) n .high ≤ 127
   high-is-a-note n = high-within r (r .form) n within
 
+-- .. of these bytes
+module _ (b : List ℕ) (second : SecondTable) (k : ℕ) where
+  module _ (e : Edition) (first : k ≡ firstBad (recordOf e b second 0)) (h : held e ≤ k) where
+    made-sound : held (editionOf (recordOf e b second 0)) ≤ firstBad (recordOf e b second 0)
+    made-sound = rw (edition-made b second 0 e, ← first) h
+
+    pub limits-made : (n : ℕ) (s : Set) → s ≡ setFor (formOf e b second 0) n → (s .low < noteCount) × (s .high < noteCount)
+    unfolding recordOf recordWith
+    limits-made n s q =
+        let r = recordOf e b second 0 in
+        rw q (omega (arith, low-is-a-note r made-sound n), omega (arith, high-is-a-note r made-sound n))
+
   -- .. and the table of a Ctab is one that becomes another
-  pub table-becomes : (x : Single) → r .form ≡ One x → x .set .table < 6
-  table-becomes x e = omega (arith, table-within r (r .form) x e within)
+  pub table-made : k ≡ firstBad (recordOf First b second 0) → held First ≤ k → (s : Set) → s ≡ setAt b 20 → s .table < 6
+  unfolding recordOf recordWith
+  table-made first h s q =
+      let r = recordOf First b second 0 in
+      rw q (omega (arith, table-within r b second (within r (made-sound First first h))))

@@ -3,6 +3,7 @@ pub mod Folding
 pub mod Nearing
 pub mod Ways
 pub mod Choosing
+pub mod Laid
 pub mod Shifting
 pub mod Hearing
 pub mod Placing

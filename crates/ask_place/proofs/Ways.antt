@@ -1,17 +1,22 @@
 -- One law for each way out of placing a note, and of its shift.
 use Prim.Native.Nat.{ℕ, _≤_, _<_}
-use mathlib.Core.Path.{_≡_, sym, ap}
-use mathlib.Core.Bool.{true, false}
-use borrow.Author.Tests.{lt-ltb, le-ltb, lt-leb, le-leb, ne-eqb}
-use lib.Dec.{eqb}
+use mathlib.Core.Path.{_≡_, sym, ap, _∙_}
+use mathlib.Core.Bool.{Bool, true, false, _||_, true≢false}
+use mathlib.Core.List.{List}
+use borrow.Author.Tests.{lt-ltb, le-ltb, lt-leb, le-leb, leb-false, ne-eqb}
+use lib.Dec.{eqb, leb}
+use lib.ListN.{getD}
 use lib.IntN.{ℤ, pos, _+ℤ_, _-ℤ_}
-use Rattle.layout.specs.declared.record.Record.{Record}
+use Rattle.layout.specs.declared.record.SecondTable.{SecondTable}
 use Rattle.layout.specs.declared.record.Set.{Set}
 use Rattle.layout.specs.declared.edition.Edition.{Edition}
 use Rattle.layout.specs.Editions.{held}
-use Rattle.layout.specs.Records.{editionOf, firstBad}
+use Rattle.layout.specs.Records.{formOf, recordWith, recordOf, firstBad}
 use Rattle.layout.specs.Answers.{Answer, refused, granted}
-use Rattle.layout.specs.Place.{setFor, tableFor, bypass, shift, fixed, heard, notePlaced, placed}
+use Rattle.layout.specs.Plays.{rootCount}
+use Rattle.layout.specs.Place.{noteCount, setFor, tableFor, bypass, shift, fixed, heard, notePlaced, placed}
+use Rattle.layout.proofs.BytesBack.{edition-made}
+use Rattle.ask_place.specs.Sets.{bySet}
 
 -- ---- bypass
 
@@ -56,40 +61,53 @@ module _ (table key from root : ℕ) where
     unfolding shift
     shift-plain h = rw (b, le-ltb key root h)
 
+-- ---- what a set answers
+
+module _ (set : Set) (table from root n : ℕ) where
+  pub set-fixed : fixed (set .rule) table ≡ true → bySet set table from root n ≡ refused 17 0
+  unfolding bySet
+  set-fixed f = rw f
+
+  pub set-shifted : fixed (set .rule) table ≡ false → (by : ℤ) → by ≡ shift table (set .key) from root
+      → bySet set table from root n ≡ granted (heard (pos n +ℤ by) (set .low) (set .high))
+  unfolding bySet
+  set-shifted f by e = rw (f, e)
+
+-- ---- a chord root and a note that are none
+
+module _ (root n : ℕ) where
+  pub number-root : 12 ≤ root → true ≡ leb rootCount root || leb noteCount n
+  number-root h = sym (rw (le-leb 12 root h))
+
+  pub number-note : root < 12 → leb noteCount n ≡ leb rootCount root || leb noteCount n
+  number-note h = sym (rw (lt-leb 12 root h))
+
+  -- .. and a note that is one
+  pub note-some : (none : Bool) → none ≡ leb rootCount root || leb noteCount n → none ≡ false → n < noteCount
+  note-some none told some = leb-false noteCount n (other (leb rootCount root) (leb noteCount n) (sym told ∙ some))
+    where
+      other : (s t : Bool) → s || t ≡ false → t ≡ false
+      other true t h = absurd (true≢false h)
+      other false t h = h
+
 -- ---- the call
 
 -- what the definitions answer makes the answer of the call
 pub answers : {x y : Answer ℕ} → x ≡ y → placed y ≡ placed x
 answers e = sym (ap placed e)
 
--- the first bad byte against the number of those held
-module _ (r : Record) (e : Edition) (n k : ℕ) (is : e ≡ editionOf r) (many : n ≡ held e) where
-  pub is-bad : k < n → k < held (editionOf r)
-  is-bad l = rw (← is, ← many) l
-
-  pub is-sound : k ≡ firstBad r → n ≤ k → held (editionOf r) ≤ firstBad r
-  is-sound f l = rw (← is, ← many, ← f) l
-
-module _ (r : Record) (root n : ℕ) where
-  pub placed-root : 12 ≤ root → notePlaced r root n ≡ refused 16 0
+-- the record of these bytes, where a call told whether chord root or note is none
+module _ (e : Edition) (b : List ℕ) (second : SecondTable) (root n : ℕ) (none : Bool) (told : none ≡ leb rootCount root || leb noteCount n) where
+  pub placed-none : none ≡ true → notePlaced (recordOf e b second 0) root n ≡ refused 16 0
   unfolding notePlaced
-  placed-root h = rw (le-leb 12 root h)
+  placed-none h = rw (sym told ∙ h)
 
-  pub placed-note : root < 12 → 128 ≤ n → notePlaced r root n ≡ refused 16 0
-  unfolding notePlaced
-  placed-note h l = rw (lt-leb 12 root h, le-leb 128 n l)
-
-  module _ (hr : root < 12) (hn : n < 128) where
-    pub placed-bad : (k : ℕ) → k ≡ firstBad r → k < held (editionOf r) → notePlaced r root n ≡ refused 9 k
+  module _ (some : none ≡ false) (k : ℕ) (first : k ≡ firstBad (recordOf e b second 0)) where
+    pub placed-bad : k < held e → notePlaced (recordOf e b second 0) root n ≡ refused 9 k
     unfolding notePlaced
-    placed-bad k e h = rw (lt-leb 12 root hr, lt-leb 128 n hn, ← e, lt-ltb k (held (editionOf r)) h)
+    placed-bad h = rw (sym told ∙ some, ← first, edition-made b second 0 e, lt-ltb k (held e) h)
 
-    module _ (h : held (editionOf r) ≤ firstBad r) (set : Set) (table : ℕ) (s : set ≡ setFor (r .form) n) (t : table ≡ tableFor (r .form) n) where
-      pub placed-fixed : fixed (set .rule) table ≡ true → notePlaced r root n ≡ refused 17 0
-      unfolding notePlaced
-      placed-fixed f = rw (lt-leb 12 root hr, lt-leb 128 n hn, le-ltb (firstBad r) (held (editionOf r)) h, ← s, ← t, f)
-
-      pub placed-shifted : fixed (set .rule) table ≡ false → (by : ℤ) → by ≡ shift table (set .key) (r .root) root
-          → notePlaced r root n ≡ granted (heard (pos n +ℤ by) (set .low) (set .high))
-      unfolding notePlaced
-      placed-shifted f by e = rw (lt-leb 12 root hr, lt-leb 128 n hn, le-ltb (firstBad r) (held (editionOf r)) h, ← s, ← t, f, e)
+    pub placed-set : held e ≤ k → (set : Set) (table : ℕ) → set ≡ setFor (formOf e b second 0) n → table ≡ tableFor (formOf e b second 0) n
+        → notePlaced (recordOf e b second 0) root n ≡ bySet set table (getD b 18 0) root n
+    unfolding notePlaced bySet recordOf recordWith
+    placed-set h set table s t = rw (sym told ∙ some, ← first, edition-made b second 0 e, le-ltb k (held e) h, ← s, ← t)

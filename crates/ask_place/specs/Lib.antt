@@ -1,1 +1,2 @@
 pub mod Octaves
+pub mod Sets

@@ -2,13 +2,16 @@
 use Prim.Native.Nat.{ℕ}
 use mathlib.Core.Path.{_≡_, ap, subst, _∙_}
 use mathlib.Core.List.{List, map}
+use Rattle.layout.specs.declared.edition.Edition.the-variants.{First}
 use Rattle.layout.specs.declared.record.SourceChannel.{SourceChannel}
+use Rattle.layout.specs.declared.record.SecondTable.{SecondTable}
 use Rattle.layout.specs.declared.record.Record.{Record}
 use Rattle.layout.specs.declared.answer.Answered.{Answered}
 use Rattle.layout.specs.declared.answer.Played.{Played}
 use Rattle.layout.specs.declared.answer.Placed.{Placed}
 use Rattle.layout.specs.declared.answer.Changed.{Changed}
 use Rattle.layout.specs.Promises.{RecordEdited, NotePlaced}
+use Rattle.layout.specs.Records.{recordOf}
 use Rattle.layout.specs.Screen.{fieldSet, changed}
 use Rattle.c_row.specs.declared.row.Row.{Row}
 use Rattle.c_row.specs.Rows.{channel, rowFor}
@@ -28,10 +31,10 @@ pub players-told : (x y : Played) (numbers : List ℕ) → map channel numbers �
     → record { number = x .number; place = x .place; count = x .count; channels = map channel numbers } ≡ y
 players-told x y numbers e h = ap {B = Played} (λ (cs : List SourceChannel). record { number = x .number; place = x .place; count = x .count; channels = cs }) e ∙ h
 
--- a note placed by the record that a row stands for
-pub placed-by : (new row : Record) (root note : ℕ) (r : Placed) → new ≡ row → NotePlaced new root note r → NotePlaced row root note r
-placed-by new row root note r e p = subst (λ (x : Record). NotePlaced x root note r) e p
+-- a note placed by a row's bytes, with the second table that the row tells
+pub placed-with : (b : List ℕ) (second told : SecondTable) (root note : ℕ) (r : Placed) → second ≡ told → NotePlaced (recordOf First b second 0) root note r → NotePlaced (recordOf First b told 0) root note r
+placed-with b second told root note r e p = subst (λ (x : SecondTable). NotePlaced (recordOf First b x 0) root note r) e p
 
--- one field byte of that record set
+-- one field byte set of the record that a row stands for
 pub changed-by : (new row : Record) (index value : ℕ) (x : Changed) → new ≡ row → x ≡ changed new (fieldSet new index value) → x ≡ changed row (fieldSet row index value)
 changed-by new row index value x e h = h ∙ ap (λ (y : Record). changed y (fieldSet y index value)) e

@@ -17,7 +17,7 @@ use layout::record::Tail;
 use layout::record::Triple;
 
 // The set at a place.
-fn set_at(b: &[u8], at: usize) -> Set
+pub fn set_at(b: &[u8], at: usize) -> Set
     requires { ⌜ at + 6 ≤ length (now b) ⌝ }
     ensures { λ s. ⌜ s ≡ setAt (now (b .entry)) at ⌝ }
 {
