@@ -8,6 +8,8 @@ ghost use Rattle.layout.specs.Records.{formOf};
 ghost use Rattle.layout.specs.Place.{effective, setFor, bypass, fixed};
 use layout::record::SecondTable;
 use layout::record::Set;
+use layout::rule::FIXED;
+use layout::rule::THIRD;
 use read_record::made::set_at;
 
 // The effective table of a Ctab: the Cntt value if present; else 00, 01, 02, 03, 04, 05 become 00, 01, 02, 81, 03, 05 (H).
@@ -49,11 +51,11 @@ pub fn is_bypass(table: u8) -> bool
 pub fn is_fixed(rule: u8, table: u8) -> bool
     ensures { λ b. ⌜ b ≡ fixed rule table ⌝ }
 {
-    if rule == 2 {
+    if rule == THIRD {
         return true;
     }
     if is_bypass(table) {
         return false;
     }
-    rule == 1
+    rule == FIXED
 }

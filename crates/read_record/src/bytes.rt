@@ -10,7 +10,7 @@ use layout::record::Triple;
 use layout::size::SECOND_RECORD;
 
 // The bytes of a record with one set, and 00 behind them.
-pub fn ctab_bytes(r: Record, set: Set) -> [u8; SECOND_RECORD]
+fn ctab_bytes(r: Record, set: Set) -> [u8; SECOND_RECORD]
     ensures { λ b. ⌜ b ≡ headBytes r ++ (setBytes set ++ replicate 21 0) ⌝ }
 {
     let source = r.source;
@@ -70,7 +70,7 @@ pub fn ctab_bytes(r: Record, set: Set) -> [u8; SECOND_RECORD]
 }
 
 // .. and of one with three.
-pub fn ctb2_bytes(r: Record, x: Triple) -> [u8; SECOND_RECORD]
+fn ctb2_bytes(r: Record, x: Triple) -> [u8; SECOND_RECORD]
     ensures { λ b. ⌜ b ≡ headBytes r ++ tripleBytes x ⌝ }
 {
     let source = r.source;
