@@ -180,7 +180,7 @@ static uint64_t place_plain(void) PLACE(plain_place)
 #define WRITE(call, b) { casm_length r = call((const uint8_t *)"Main A,Main B", 13, from, sizeof table, written, b, 2048); return mix(mix(mix(r.number, r.place), r.length), checking ? lent(b, 2048) : 0); }
 static uint64_t write_proved(void) WRITE(casm_write, buffer[0])
 static uint64_t write_plain(void) WRITE(plain_write, buffer[1])
-#define EDIT(call, b) { casm_answer r = call(b, in_size, 15, 7, placed[7]); return mix(mix(r.number, r.place), checking ? lent(b, in_size) : 0); }
+#define EDIT(call, b) { casm_answer r = call(b, in_size, 15, 7, placed[7], CASM_OVERRIDE); return mix(mix(r.number, r.place), checking ? lent(b, in_size) : 0); }
 static uint64_t edit_proved(void) EDIT(casm_edit, edited[0])
 static uint64_t edit_plain(void) EDIT(plain_edit, edited[1])
 

@@ -222,16 +222,57 @@ static void test_edit(void) {
     casm_row row = record(3);
     row.bytes[18] = 2;
     memcpy(changed, body, BODY_SIZE);
-    casm_answer answer = casm_edit(changed, BODY_SIZE, 0, 4, record(4));
+    casm_answer answer = casm_edit(changed, BODY_SIZE, 0, 4, record(4), CASM_KEEP_LOCKED);
     test("edit: no such channel", answer.number == CASM_NOT_THERE && answer.place == 0);
-    answer = casm_edit(changed, BODY_SIZE, 0, 3, record(4));
+    answer = casm_edit(changed, BODY_SIZE, 0, 3, record(4), CASM_KEEP_LOCKED);
     test("edit: another source channel", answer.number == CASM_BAD_NUMBER && answer.place == 0);
     test("edit: refused, the body is as it was", memcmp(changed, body, BODY_SIZE) == 0);
-    answer = casm_edit(changed, BODY_SIZE, 0, 3, row);
+    answer = casm_edit(changed, BODY_SIZE, 0, 3, row, CASM_KEEP_LOCKED);
     test("edit: accepted", answer.number == CASM_ACCEPTED && answer.place == 0);
     test("edit: the byte is there", changed[M_SIZE + 8 + 18] == 2);
     changed[M_SIZE + 8 + 18] = 0;
     test("edit: and no other changed", memcmp(changed, body, BODY_SIZE) == 0);
+}
+
+static void test_read_only(void) {
+    unsigned char changed[BODY_SIZE], locked[BODY_SIZE];
+    casm_row row = record(3), bad = record(3);
+    bad.bytes[24] = 200;
+    memcpy(locked, body, BODY_SIZE);
+    locked[M_SIZE + 8 + 10] = 1;
+    memcpy(changed, locked, BODY_SIZE);
+    casm_answer answer = casm_edit(changed, BODY_SIZE, 0, 3, row, CASM_KEEP_LOCKED);
+    test("read only: refused, though the row is not locked", answer.number == CASM_READ_ONLY && answer.place == 10);
+    test("read only: before a byte out of range", casm_edit(changed, BODY_SIZE, 0, 3, bad, CASM_KEEP_LOCKED).number == CASM_READ_ONLY);
+    test("read only: after another source channel", casm_edit(changed, BODY_SIZE, 0, 3, record(7), CASM_KEEP_LOCKED).number == CASM_BAD_NUMBER);
+    test("read only: 2 does not override", casm_edit(changed, BODY_SIZE, 0, 3, row, 2).number == CASM_READ_ONLY);
+    test("read only: 255 does not override", casm_edit(changed, BODY_SIZE, 0, 3, row, 255).number == CASM_READ_ONLY);
+    row.edition = CASM_SECOND_EDITION;
+    test("read only: after another edition", casm_edit(changed, BODY_SIZE, 0, 3, row, CASM_KEEP_LOCKED).number == CASM_OTHER_EDITION);
+    row.edition = CASM_FIRST_EDITION;
+    test("read only: the body is as it was", memcmp(changed, locked, BODY_SIZE) == 0);
+    answer = casm_edit(changed, BODY_SIZE, 0, 3, bad, CASM_OVERRIDE);
+    test("override: a byte out of range all the same", answer.number == CASM_OUT_OF_RANGE && answer.place == 24);
+    test("override: accepted, and the lock is gone", casm_edit(changed, BODY_SIZE, 0, 3, row, CASM_OVERRIDE).number == CASM_ACCEPTED && memcmp(changed, body, BODY_SIZE) == 0);
+    row.bytes[10] = 1;
+    test("read only: a row that locks goes in", casm_edit(changed, BODY_SIZE, 0, 3, row, CASM_KEEP_LOCKED).number == CASM_ACCEPTED && memcmp(changed, locked, BODY_SIZE) == 0);
+    test("read only: its neighbour is not locked", casm_edit(changed, BODY_SIZE, 0, 7, record(7), CASM_KEEP_LOCKED).number == CASM_ACCEPTED);
+}
+
+static void test_locked_field(void) {
+    casm_row row = record(3);
+    row.bytes[10] = 1;
+    casm_edited edited = casm_field(row, 24, 100);
+    test("locked field: refused, the record as it was", edited.number == CASM_READ_ONLY && edited.place == 10 && memcmp(&edited.held, &row, sizeof row) == 0);
+    test("locked field: before a value out of range", casm_field(row, 24, 200).number == CASM_READ_ONLY);
+    test("locked field: after an index", casm_field(row, 26, 0).number == CASM_BAD_NUMBER);
+    edited = casm_field(row, 10, 2);
+    test("locked field: a bad lock is out of range", edited.number == CASM_OUT_OF_RANGE && edited.place == 10);
+    edited = casm_field(row, 10, 0);
+    test("locked field: the lock comes off", edited.number == CASM_ACCEPTED && edited.held.bytes[10] == 0);
+    test("locked field: and then any byte is set", casm_field(edited.held, 24, 100).number == CASM_ACCEPTED);
+    row.bytes[10] = 2;
+    test("locked field: 02 does not lock", casm_field(row, 24, 100).number == CASM_ACCEPTED);
 }
 
 static void test_field(void) {
@@ -401,7 +442,7 @@ static void test_large_numbers(void) {
     test("large: a group's number", casm_group(body, BODY_SIZE, large).number == CASM_BAD_NUMBER);
     test("large: a channel's group", casm_channel(body, BODY_SIZE, large, three[0].bytes[0]).number == CASM_BAD_NUMBER);
     test("large: a voice's group", casm_voice(body, BODY_SIZE, large, three[0].bytes[0]).number == CASM_BAD_NUMBER);
-    test("large: an edit's group", casm_edit(changed, BODY_SIZE, large, three[0].bytes[0], three[0]).number == CASM_BAD_NUMBER);
+    test("large: an edit's group", casm_edit(changed, BODY_SIZE, large, three[0].bytes[0], three[0], CASM_KEEP_LOCKED).number == CASM_BAD_NUMBER);
     test("large: the records' group", casm_records(body, BODY_SIZE, large, 0, 0).number == CASM_BAD_NUMBER);
     test("large: a field's index", casm_field(three[0], large, 0).number == CASM_BAD_NUMBER);
     test("large: a count", casm_write((const unsigned char *)"Main A", 6, 0, 0, large, out, sizeof out).number == CASM_BAD_NUMBER);
@@ -536,23 +577,23 @@ static void test_second_edit(void) {
     memcpy(changed, newer, NEWER_SIZE);
     memcpy(older, body, BODY_SIZE);
     unlike.bytes[24] = 200;
-    casm_answer answer = casm_edit(changed, NEWER_SIZE, 0, 7, unlike);
+    casm_answer answer = casm_edit(changed, NEWER_SIZE, 0, 7, unlike, CASM_KEEP_LOCKED);
     test("second edit: a row of the first, before its bytes", answer.number == CASM_OTHER_EDITION && answer.place == 0);
-    test("second edit: another source channel before that", casm_edit(changed, NEWER_SIZE, 0, 3, unlike).number == CASM_BAD_NUMBER);
+    test("second edit: another source channel before that", casm_edit(changed, NEWER_SIZE, 0, 3, unlike, CASM_KEEP_LOCKED).number == CASM_BAD_NUMBER);
     row.bytes[37] = 128;
-    answer = casm_edit(changed, NEWER_SIZE, 0, 7, row);
+    answer = casm_edit(changed, NEWER_SIZE, 0, 7, row, CASM_KEEP_LOCKED);
     test("second edit: a byte out of range", answer.number == CASM_OUT_OF_RANGE && answer.place == 37);
     test("second edit: refused, the body is as it was", memcmp(changed, newer, NEWER_SIZE) == 0);
     row.bytes[37] = 1, row.bytes[46] = 1;
-    answer = casm_edit(changed, NEWER_SIZE, 0, 7, row);
+    answer = casm_edit(changed, NEWER_SIZE, 0, 7, row, CASM_KEEP_LOCKED);
     test("second edit: accepted", answer.number == CASM_ACCEPTED && memcmp(changed + M_SIZE + SECOND_SIZE + 8, row.bytes, 47) == 0);
     memcpy(changed + M_SIZE + SECOND_SIZE + 8, newer + M_SIZE + SECOND_SIZE + 8, 47);
     test("second edit: and no other byte changed", memcmp(changed, newer, NEWER_SIZE) == 0);
-    answer = casm_edit(older, BODY_SIZE, 0, 7, row);
+    answer = casm_edit(older, BODY_SIZE, 0, 7, row, CASM_KEEP_LOCKED);
     test("second edit: a row of the second in the first", answer.number == CASM_OTHER_EDITION && answer.place == 0 && memcmp(older, body, BODY_SIZE) == 0);
     unlike = record(7);
     unlike.edition = 7;
-    test("second edit: edition 7 is the first", casm_edit(older, BODY_SIZE, 0, 7, unlike).number == CASM_ACCEPTED);
+    test("second edit: edition 7 is the first", casm_edit(older, BODY_SIZE, 0, 7, unlike, CASM_KEEP_LOCKED).number == CASM_ACCEPTED);
 }
 
 static void test_second_field(void) {
@@ -624,7 +665,7 @@ static void test_second_limit(void) {
 }
 
 int main(void) {
-    test("the version", CASM_VERSION == 3000);
+    test("the version", CASM_VERSION == 4000);
     prepare();
     test_find();
     test_body();
@@ -636,6 +677,8 @@ int main(void) {
     test_voice();
     test_place();
     test_edit();
+    test_read_only();
+    test_locked_field();
     test_field();
     test_write();
     test_positions();

@@ -409,7 +409,7 @@ casm_length plain_write(const uint8_t *text, size_t length, const uint8_t *table
     return r.length = size, r;
 }
 
-casm_answer plain_edit(uint8_t *body, size_t size, size_t group, uint8_t source, casm_row row)
+casm_answer plain_edit(uint8_t *body, size_t size, size_t group, uint8_t source, casm_row row, uint8_t over)
 {
     casm_answer r = {0};
     struct group groups[GROUPS];
@@ -424,6 +424,7 @@ casm_answer plain_edit(uint8_t *body, size_t size, size_t group, uint8_t source,
     if (b == end) return r.number = 15, r;
     if (row.bytes[0] != source) return r.number = 16, r;
     if (edition_of(row.edition) != edition) return r.number = 21, r;
+    if (b[10] == 1 && over != 1) return r.number = 22, r.place = 10, r;
     size_t held = edition == SECOND ? 47 : 26, k = edition == SECOND ? first_out_second(row.bytes) : first_out(row.bytes, 26);
     if (k < held) return r.number = 9, r.place = k, r;
     memcpy(b, row.bytes, held);

@@ -487,15 +487,16 @@ static int write_group(Text *line) {
     return 1;
 }
 
-/* edit BYTES G CHANNEL REC */
+/* edit BYTES G CHANNEL REC OVERRIDE */
 static int edit(Text *line) {
     Lent lent;
     unsigned long group;
     unsigned char source;
     casm_row row;
-    if (!bytes(line, body_end, &lent) || !number(line, &group) || !byte(line, &source) || !record(line, &row) || !ended(line))
+    unsigned long over;
+    if (!bytes(line, body_end, &lent) || !number(line, &group) || !byte(line, &source) || !record(line, &row) || !number(line, &over) || over > 1 || !ended(line))
         return 0;
-    casm_answer answer = casm_edit(lent.at, lent.length, group, source, row);
+    casm_answer answer = casm_edit(lent.at, lent.length, group, source, row, over ? CASM_OVERRIDE : CASM_KEEP_LOCKED);
     told(answer.number, answer.place, 0);
     print_bytes(lent.at, lent.length);
     return 1;

@@ -37,6 +37,8 @@ static inline const char *in_words(unsigned char number) {
         "root fixed and the table is not bypass, or rule 2", "the positions of the Cntts are wrong"};
     if (number == CASM_OTHER_EDITION)
         return "of another edition";
+    if (number == CASM_READ_ONLY)
+        return "read only";
     return number < sizeof words / sizeof *words ? words[number] : "unknown";
 }
 

@@ -38,8 +38,13 @@
  *  - walk from record to record by 8 + CASM_FIRST_SIZE or 8 + CASM_SECOND_SIZE bytes, as the group's edition says;
  *  - lend casm_write CASM_MAX_GROUP_SIZE bytes, which are more than they were, if you counted on them being enough;
  *  - expect 21 where a body, a row to write or a row to edit is of another edition than it must be.
- * A body of the first edition is answered as before, and so is a row whose edition is not 2. */
-#define CASM_VERSION_MAJOR 3
+ *    A body of the first edition is answered as before, and so is a row whose edition is not 2.
+ * 4.0: Read only means read only: casm_edit has a last argument, and 22 is new. To come over from 3.0, compile anew, and
+ *  - say in each casm_edit whether a lock is overridden: CASM_OVERRIDE for what must change a record whatever its byte 10, as a batch does,
+ *    which is answered as 3.0 answered, or CASM_KEEP_LOCKED;
+ *  - expect 22 from casm_edit with CASM_KEEP_LOCKED where byte 10 of the record in the body is 01, and from casm_field where that of the row is,
+ *    for every index but 10: a lock is taken off by setting byte 10 to 00. */
+#define CASM_VERSION_MAJOR 4
 #define CASM_VERSION_MINOR 0
 #define CASM_VERSION (1000 * CASM_VERSION_MAJOR + CASM_VERSION_MINOR)
 
@@ -64,6 +69,7 @@
 #define CASM_ROOT_FIXED 17
 #define CASM_BAD_POSITIONS 18
 #define CASM_OTHER_EDITION 21
+#define CASM_READ_ONLY 22
 
 /* The limits, and what is enough for any answer. */
 #define CASM_MAX_FILE 1048576    /* bytes of a style file */
@@ -76,6 +82,8 @@
 #define CASM_MAX_LIST 24576      /* numbers of a salvage list, three an entry */
 #define CASM_MAX_STACK 4096      /* bytes of stack of a call */
 #define CASM_ROW_SIZE 51         /* bytes of a record in a flat table */
+#define CASM_KEEP_LOCKED 0       /* what casm_edit is asked to do with a locked record: to refuse it, .. */
+#define CASM_OVERRIDE 1          /* .. or to change it all the same */
 #define CASM_FIRST_EDITION 1     /* the edition of a row or a group (Ctab), .. */
 #define CASM_FIRST_BYTES 26      /* .. how many of a row's bytes it uses, .. */
 #define CASM_FIRST_SIZE 27       /* .. and how many its Ctab has behind its tag and length: the end marker is one more */
@@ -241,13 +249,16 @@ casm_note casm_place(casm_row row, unsigned char root, unsigned char note);
 /* Replaces the record of a group and source channel inside a body: only that Ctab's 27 bytes, or that Ctb2's 47, change. A Cntt in `row` is
  * neither read nor checked, nor is its position.
  * Refusals: the body's; 16 where there is no such group; 15; 16 for another source channel in `row`; 21, at 0, where `row` is of another edition
- * than the group; 9, at the byte of the record. */
-casm_answer casm_edit(unsigned char *body, unsigned long body_length, unsigned long group, unsigned char source, casm_row row);
+ * than the group; 22, at 10, where byte 10 of the record in the body is 01, whatever that of `row`, unless `over` is CASM_OVERRIDE (any other
+ * number is as CASM_KEEP_LOCKED); 9, at the byte of the record. */
+casm_answer casm_edit(
+    unsigned char *body, unsigned long body_length, unsigned long group, unsigned char source, casm_row row, unsigned char over);
 
 /* One byte (index 0-25, or 0-46 in the second edition) of a record set to a value, all others kept, and its Cntt with its position.
  * Only the value is judged, a set's table by the rule that the record then has (over 2 counts as 0): so a rule 2 may be set over a table that
  * it does not allow, and casm_write, casm_edit and casm_place then answer 9 at that table.
- * Refusals: 16 for the index; 9 for the value, at the index. */
+ * Of a row whose byte 10 is 01, byte 10 alone is set: nothing is overridden here.
+ * Refusals: 16 for the index; 22, at 10, where byte 10 of the row is 01 and the index is not 10; 9 for the value, at the index. */
 casm_edited casm_field(casm_row row, unsigned long index, unsigned char value);
 
 /* Writes one group at the start of `out`, from its Sdec's text and the first `count` records of a flat table; later bytes are kept.

@@ -12,7 +12,9 @@ use crate::record::{First, Record};
 use crate::refusal::Refusal;
 use crate::salvage::{salvage, Entry};
 use crate::screen::set_field;
-use crate::script::{byte, bytes, number, record, room, show_bytes, show_record, tokens};
+use crate::script::{
+    byte, bytes, number, overriding, record, room, show_bytes, show_record, tokens,
+};
 use crate::style::find;
 use crate::voice::voice_name;
 use crate::write::write_group;
@@ -88,11 +90,12 @@ fn run(tokens: &[&[u8]]) -> Option<String> {
             room(lent, WRITE_ROOM)?,
             records,
         ),
-        (b"edit", &[body, group, channel, rec]) => Some(run_edit(
+        (b"edit", &[body, group, channel, rec, over]) => Some(run_edit(
             bytes(body)?,
             number(group)?,
             byte(channel)?,
             &record(rec)?,
+            overriding(over)?,
         )),
         (b"screen", &[rec, index, value]) => {
             Some(run_screen(record(rec)?, number(index)?, byte(value)?))
@@ -191,8 +194,8 @@ fn run_write(text: &[u8], count: u32, room: usize, records: &[&[u8]]) -> Option<
     Some(format!("{result} {}", show_bytes(&lent)))
 }
 
-fn run_edit(mut body: Vec<u8>, group: u32, channel: u8, record: &Record) -> String {
-    let result = match edit(&mut body, group, channel, record) {
+fn run_edit(mut body: Vec<u8>, group: u32, channel: u8, record: &Record, over: bool) -> String {
+    let result = match edit(&mut body, group, channel, record, over) {
         Ok(()) => "ok".to_string(),
         Err(refusal) => refused(refusal),
     };

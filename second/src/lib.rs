@@ -1,6 +1,6 @@
-//! The second program: document 01 once more, with requests §1, §3 and §4 of document 02, written
-//! from the documents alone. Each module follows one of document 01's headings; `calls` and
-//! `list` are its two programs.
+//! The second program: document 01 once more, with requests §1, §3, §4 and §6 of document 02,
+//! written from the documents alone. Each module follows one of document 01's headings; `calls`
+//! and `list` are its two programs.
 
 pub mod body;
 pub mod bytes;

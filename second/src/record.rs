@@ -11,6 +11,10 @@ pub const CNTT_BYTES: usize = 2;
 
 pub const SOURCE_CHANNEL: usize = 0;
 
+/// Byte 10: "00 editable, 01 read only"; it is also the place of 22.
+pub const READ_ONLY: usize = 10;
+pub const LOCKED: u8 = 0x01;
+
 /// A first-edition record; the second table is absent or the value of its Cntt, the position is
 /// the number of its Cntt among those of the group, from 1, "0 for none".
 #[derive(Clone, Copy, Debug, PartialEq, Eq)]
@@ -80,6 +84,11 @@ impl Record {
             Record::Second(_) => None,
         }
     }
+}
+
+/// "A record that has byte 10 = 01" (document 02, §6), of either edition; no other value locks.
+pub fn is_locked(bytes: &[u8]) -> bool {
+    bytes[READ_ONLY] == LOCKED
 }
 
 /// The values of a Cntt: 04, 06 to 0A, or 80 to 8A (H).

@@ -46,6 +46,15 @@ pub fn byte(token: &[u8]) -> Option<u8> {
     number(token).and_then(|value| u8::try_from(value).ok())
 }
 
+/// OVERRIDE: a number that "is `0` or `1`".
+pub fn overriding(token: &[u8]) -> Option<bool> {
+    match number(token)? {
+        0 => Some(false),
+        1 => Some(true),
+        _ => None,
+    }
+}
+
 /// A number of things lent, up to the most that the protocol allows.
 pub fn room(token: &[u8], most: usize) -> Option<usize> {
     number(token)

@@ -174,7 +174,7 @@ fn the_tail_is_kept() {
         assert_eq!(read_group(&body, 0, &mut table), Ok((1, &b"A"[..])));
         assert_eq!(table, [record]);
         let mut edited = group_bytes(b"A", &[two(5)]);
-        assert_eq!(edit(&mut edited, 0, 5, &record), Ok(()));
+        assert_eq!(edit(&mut edited, 0, 5, &record, false), Ok(()));
         assert_eq!(edited, body);
     }
 }
@@ -439,22 +439,23 @@ fn editions_in_an_edit() {
         let before = body.clone();
         let bad = |record: Record| with(record, &[(9, 0)]);
         let end = body.len() - 1;
-        assert_eq!(no(edit(&mut body[..end], 9, 9, &other(4))).0, 2);
-        assert_eq!(no(edit(&mut body, 2, 9, &other(4))), (16, 0));
-        assert_eq!(no(edit(&mut body, 0, 9, &other(4))), (15, 0));
-        assert_eq!(no(edit(&mut body, 1, 5, &other(5))), (15, 0));
-        assert_eq!(no(edit(&mut body, 0, 5, &other(4))), (16, 0));
-        assert_eq!(no(edit(&mut body, 0, 5, &bad(other(4)))), (16, 0));
-        assert_eq!(no(edit(&mut body, 0, 5, &bad(other(5)))), (21, 0));
-        assert_eq!(no(edit(&mut body, 0, 5, &other(5))), (21, 0));
-        assert_eq!(no(edit(&mut body, 0, 5, &bad(own(5)))), (9, 9));
+        assert_eq!(no(edit(&mut body[..end], 9, 9, &other(4), false)).0, 2);
+        assert_eq!(no(edit(&mut body, 2, 9, &other(4), false)), (16, 0));
+        assert_eq!(no(edit(&mut body, 0, 9, &other(4), false)), (15, 0));
+        assert_eq!(no(edit(&mut body, 1, 5, &other(5), false)), (15, 0));
+        assert_eq!(no(edit(&mut body, 0, 5, &other(4), false)), (16, 0));
+        assert_eq!(no(edit(&mut body, 0, 5, &bad(other(4)), false)), (16, 0));
+        assert_eq!(no(edit(&mut body, 0, 5, &bad(other(5)), false)), (21, 0));
+        assert_eq!(no(edit(&mut body, 0, 5, &other(5), false)), (21, 0));
+        assert_eq!(no(edit(&mut body, 0, 5, &bad(own(5)), false)), (9, 9));
         assert_eq!(body, before);
-        assert_eq!(edit(&mut body, 0, 5, &own(5)), Ok(()));
+        assert_eq!(edit(&mut body, 0, 5, &own(5), false), Ok(()));
         assert_eq!(body, before);
     }
 }
 
-/// "Only that Ctab's 27 bytes may change", here the Ctb2's 47.
+/// "Only that Ctab's 27 bytes may change", here the Ctb2's 47; the new record is read only, so the
+/// edits after it ask to override (document 02, §6).
 #[test]
 fn an_edit_of_47_bytes() {
     let mut new = [0xFF; 47];
@@ -465,17 +466,17 @@ fn an_edit_of_47_bytes() {
     ]);
     let new = Record::Second(new);
     let mut body = asked(two);
-    assert_eq!(edit(&mut body, 0, 2, &new), Ok(()));
+    assert_eq!(edit(&mut body, 0, 2, &new, false), Ok(()));
     let mut expected = asked(two);
     expected[17 + 55 + 8..17 + 110].copy_from_slice(new.bytes());
     assert_eq!(body, expected);
     for index in [22, 23, 28, 29, 34, 35, 39] {
         let bad = with(two(2), &[(index, 0x7F)]);
-        assert_eq!(no(edit(&mut body, 0, 2, &bad)), (9, index));
+        assert_eq!(no(edit(&mut body, 0, 2, &bad, true)), (9, index));
         assert_eq!(body, expected);
     }
     let forbidden = with(two(2), &[(34, 2), (35, 0x83)]);
-    assert_eq!(no(edit(&mut body, 0, 2, &forbidden)), (9, 35));
+    assert_eq!(no(edit(&mut body, 0, 2, &forbidden, true)), (9, 35));
 }
 
 /// "The screen's index runs 0-46, a table judged by the rule the record then has (over 2 counts
@@ -721,9 +722,9 @@ fn lines_of_the_second_edition() {
     is(&format!("write 41 1 72 {rec}"), &format!("ok 72 {hex}"));
     is(&format!("write 41 2 2 {rec} {other}"), "refused 21 47 aaaa");
     is(&format!("write 41 2 2 {other} {rec}"), "refused 21 27 aaaa");
-    is(&format!("edit {hex} 0 3 {rec}"), &format!("ok {hex}"));
+    is(&format!("edit {hex} 0 3 {rec} 0"), &format!("ok {hex}"));
     is(
-        &format!("edit {hex} 0 3 {other}"),
+        &format!("edit {hex} 0 3 {other} 1"),
         &format!("refused 21 0 {hex}"),
     );
     is(&format!("place {rec} 0 60"), "ok 60");

@@ -178,7 +178,7 @@ fn forms_of_positions() {
 }
 
 /// Lines that break the grammar, whatever their verb.
-const BAD_LINES: [&str; 51] = [
+const BAD_LINES: [&str; 52] = [
     "",
     " ",
     "body",
@@ -208,6 +208,7 @@ const BAD_LINES: [&str; 51] = [
     "write - 4294967296 0",
     "edit - 0 0",
     "edit - 0 256 -",
+    "edit - 0 0 - 0",
     "screen - 0 0",
     "salvage -",
     "salvage - 8193",
@@ -243,7 +244,19 @@ fn lines_that_are_bad() {
         format!("place {rec} 256 0"),
         format!("place {rec} 0"),
         format!("place {rec} 0 0 0"),
+        format!("edit - 0 0 {rec}"),
+        format!("edit - 0 0 {rec} 2"),
+        format!("edit - 0 0 {rec} 255"),
+        format!("edit - 0 0 {rec} 256"),
+        format!("edit - 0 0 {rec} -1"),
+        format!("edit - 0 0 {rec} x"),
+        format!("edit - 0 0 {rec} -"),
+        format!("edit - 0 0 {rec} "),
+        format!("edit - 0 0 {rec} 0 0"),
+        format!("edit - 0 0 0 {rec}"),
+        format!("edit - 0 256 {rec} 0"),
         format!("screen {rec} 0 256"),
+        format!("screen {rec} 0 0 1"),
         format!("screen {rec} 4294967296 0"),
         format!("write 41 0 60{}", format!(" {rec}").repeat(33)),
         format!("write 41 0 60 {rec} -"),
@@ -278,7 +291,9 @@ fn lines_at_the_edge_of_the_grammar() {
     );
     is("write - 0 2", "refused 8 0 aaaa");
     is("write - 1 2", "refused 16 0 aaaa");
-    is(&format!("edit - 0 0 {rec}"), "refused 16 0 -");
+    for over in ["0", "1", "00", "01", "0000000000000000000000000001"] {
+        is(&format!("edit - 0 0 {rec} {over}"), "refused 16 0 -");
+    }
     is("body 00*1048577", "refused 3 0");
     is("body 00*1048578", "bad");
 }
@@ -361,7 +376,8 @@ fn one_answer_of_each_verb() {
         &format!("write 4d61696e2041 1 56 {rec}"),
         &format!("refused 14 0 {}", "aa".repeat(56)),
     );
-    is(&format!("edit {hex} 0 3 {rec}"), &format!("ok {hex}"));
+    is(&format!("edit {hex} 0 3 {rec} 0"), &format!("ok {hex}"));
+    is(&format!("edit {hex} 0 3 {rec} 1"), &format!("ok {hex}"));
     is(
         &format!("screen {rec} 0 15"),
         &format!("ok 0f{}", &rec[2..]),

@@ -14,10 +14,11 @@ use second::gen::ctb2;
 use second::gen::dice::Dice;
 use second::gen::positions::shuffle;
 use second::gen::sound;
+use second::lookup::find_channel;
 use second::place::place_note;
 use second::plays::who_plays;
 use second::record::{First, Record};
-use second::script::{bytes, number, record, show_record};
+use second::script::{bytes, number, record, show_bytes, show_record};
 use second::style::find;
 use second::voice::voice_name;
 use second::write::write_group;
@@ -419,10 +420,69 @@ fn an_edit_changes_one_record_only() {
         let mut old_table = [EMPTY; 16];
         let (count, _) = read_group(&before, group, &mut old_table).unwrap();
         let old = old_table[..count].iter().find(|old| old[0] == new[0]);
-        edit(&mut back, group, new[0], old.unwrap()).unwrap();
+        edit(&mut back, group, new[0], old.unwrap(), true).unwrap();
         assert_eq!(back, before);
     }
     assert!(seen > 500, "{seen}");
+}
+
+/// Without override an edit is refused with 22 exactly where it would be accepted or refused with 9
+/// and the record in the body is locked; else both are answered alike (document 02, §6).
+#[test]
+fn an_override_passes_22_and_no_other() {
+    let mut seen = [0; 3];
+    for (mut parts, _) in answered("edit", 47, 4_000) {
+        let mut with = |over: &[u8]| {
+            parts[5] = over.to_vec();
+            answer(&parts.join(&b' '))
+        };
+        let (free, asked) = (with(b"1"), with(b"0"));
+        let body = bytes(&parts[1]).unwrap();
+        let group = number(&parts[2]).unwrap();
+        let channel = number(&parts[3]).unwrap() as u8;
+        let found = find_channel(&body, group, channel);
+        let locked = found.is_ok_and(|(_, place)| body[place + 10] == 1);
+        let reached = free.starts_with("ok ") || free.starts_with("refused 9 ");
+        if locked && reached {
+            assert_eq!(asked, format!("refused 22 10 {}", show_bytes(&body)));
+            seen[usize::from(free.starts_with("ok "))] += 1;
+        } else {
+            assert_eq!(asked, free);
+            seen[2] += 1;
+        }
+    }
+    assert!(seen.iter().all(|&count| count > 50), "{seen:?}");
+}
+
+/// A key press is refused with 22 exactly where its index is in range and not 10 and byte 10 is 01;
+/// else it is answered as if no byte 10 locked (document 02, §6).
+#[test]
+fn a_lock_on_the_screen_is_22_and_no_other() {
+    let mut seen = [0; 2];
+    for (mut parts, words) in answered("screen", 48, 4_000) {
+        let given = record(&parts[1]).unwrap();
+        let index = number(&parts[2]).unwrap() as usize;
+        let locked = given[10] == 1 && index != 10 && index < given.edition().fields();
+        assert_eq!(locked, words[..2] == ["refused", "22"]);
+        seen[usize::from(locked)] += 1;
+        if locked {
+            assert_eq!(words[2], "10");
+            continue;
+        }
+        let mut other = given;
+        other[10] = 0xEE;
+        parts[1] = show_record(&other).into_bytes();
+        let again = answer(&parts.join(&b' '));
+        let again: Vec<&str> = again.split(' ').collect();
+        let last = words.len() - 1;
+        assert_eq!(again[..last], words[..last]);
+        let mut shown = record(again[last].as_bytes()).unwrap();
+        if shown[10] == 0xEE {
+            shown[10] = given[10];
+        }
+        assert_eq!(show_record(&shown), words[last]);
+    }
+    assert!(seen.iter().all(|&count| count > 500), "{seen:?}");
 }
 
 #[test]

@@ -481,18 +481,18 @@ fn edits_in_order() {
     let bad = record(4, &[(9, 0), (25, 9)], None);
     let bad_here = record(5, &[(9, 0), (25, 9)], None);
     let last = body.len() - 1;
-    assert_eq!(no(edit(&mut body[..last], 9, 9, &bad)), (2, 97));
-    assert_eq!(no(edit(&mut body, 2, 9, &bad)), (16, 0));
-    assert_eq!(no(edit(&mut body, 0, 9, &bad)), (15, 0));
-    assert_eq!(no(edit(&mut body, 0, 5, &bad)), (16, 0));
-    assert_eq!(no(edit(&mut body, 0, 5, &bad_here)), (9, 9));
+    assert_eq!(no(edit(&mut body[..last], 9, 9, &bad, false)), (2, 97));
+    assert_eq!(no(edit(&mut body, 2, 9, &bad, false)), (16, 0));
+    assert_eq!(no(edit(&mut body, 0, 9, &bad, false)), (15, 0));
+    assert_eq!(no(edit(&mut body, 0, 5, &bad, false)), (16, 0));
+    assert_eq!(no(edit(&mut body, 0, 5, &bad_here, false)), (9, 9));
     assert_eq!(body, asked());
     let mut expected = asked();
     expected[25 + 8] = b'y';
     for position in [0, 1, 2, 255] {
         let new = at_position(record(5, &[(8, b'y')], Some(0xFF)), position);
         let mut body = asked();
-        assert_eq!(edit(&mut body, 0, 5, &new), Ok(()));
+        assert_eq!(edit(&mut body, 0, 5, &new, false), Ok(()));
         assert_eq!(body, expected);
     }
 }
@@ -511,12 +511,15 @@ fn another_edition_in_an_edit() {
     };
     let bad = [(22, 3), (9, 0)];
     let last = body.len() - 1;
-    assert_eq!(no(edit(&mut body[..last], 9, 9, &of(4, &bad))), (2, 97));
-    assert_eq!(no(edit(&mut body, 2, 9, &of(4, &bad))), (16, 0));
-    assert_eq!(no(edit(&mut body, 0, 9, &of(4, &bad))), (15, 0));
-    assert_eq!(no(edit(&mut body, 0, 5, &of(4, &bad))), (16, 0));
-    assert_eq!(no(edit(&mut body, 0, 5, &of(5, &bad))), (21, 0));
-    assert_eq!(no(edit(&mut body, 0, 5, &of(5, &[]))), (21, 0));
+    assert_eq!(
+        no(edit(&mut body[..last], 9, 9, &of(4, &bad), false)),
+        (2, 97)
+    );
+    assert_eq!(no(edit(&mut body, 2, 9, &of(4, &bad), false)), (16, 0));
+    assert_eq!(no(edit(&mut body, 0, 9, &of(4, &bad), false)), (15, 0));
+    assert_eq!(no(edit(&mut body, 0, 5, &of(4, &bad), false)), (16, 0));
+    assert_eq!(no(edit(&mut body, 0, 5, &of(5, &bad), false)), (21, 0));
+    assert_eq!(no(edit(&mut body, 0, 5, &of(5, &[]), false)), (21, 0));
     assert_eq!(body, asked());
 }
 

@@ -1,5 +1,5 @@
-//! What the generator must reach: every (verb, answer) pair that document 01 with requests §1, §3
-//! and §4 of document 02 allows and no other, for find and body every number at every kind of
+//! What the generator must reach: every (verb, answer) pair that document 01 with requests §1, §3,
+//! §4 and §6 of document 02 allows and no other, for find and body every number at every kind of
 //! place, in writing every kind of right and wrong positions, and in placing every kind of limits.
 
 mod common;
@@ -26,12 +26,13 @@ fn allowed_numbers(verb: &str) -> Vec<u8> {
         "find" => vec![1, 2, 3, 4, 5],
         "body" => BODY.to_vec(),
         "group" => with_body(&[14, 16]),
-        "voice" | "plays" | "edit" | "channel" => with_body(&[15, 16]),
+        "voice" | "plays" | "channel" => with_body(&[15, 16]),
+        "edit" => with_body(&[15, 16, 22]),
         "part" => with_body(&[15]),
         "where" => with_body(&[16]),
         "place" => vec![9, 16, 17],
         "write" => vec![8, 9, 10, 14, 16, 18, 21],
-        "screen" => vec![9, 16],
+        "screen" => vec![9, 16, 22],
         "salvage" => vec![3, 14],
         _ => panic!("no such verb: {verb}"),
     }

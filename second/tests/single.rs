@@ -176,7 +176,7 @@ fn whole_records() {
     assert_eq!(buffer[..], body[..]);
     assert_eq!(buffer[87..], *b"Cntt\0\0\0\x02\x01\x80");
     let mut edited = body.clone();
-    assert_eq!(edit(&mut edited, 0, 3, &other_record()), Ok(()));
+    assert_eq!(edit(&mut edited, 0, 3, &other_record(), false), Ok(()));
     assert_eq!(&edited[25..51], other_record().bytes());
     assert_eq!(edited[51..], body[51..]);
     assert_eq!(edited[..25], body[..25]);

@@ -5,6 +5,7 @@ use mathlib.Core.List.{List, map}
 use Rattle.layout.specs.declared.edition.Edition.the-variants.{First}
 use Rattle.layout.specs.declared.record.SourceChannel.{SourceChannel}
 use Rattle.layout.specs.declared.record.SecondTable.{SecondTable}
+use Rattle.layout.specs.declared.lock.Override.{Override}
 use Rattle.layout.specs.declared.record.Record.{Record}
 use Rattle.layout.specs.declared.answer.Answered.{Answered}
 use Rattle.layout.specs.declared.answer.Played.{Played}
@@ -18,9 +19,9 @@ use Rattle.c_row.specs.Rows.{channel, rowFor}
 use Rattle.c_export.specs.declared.answer.Edited.{Edited}
 use Rattle.c_export.specs.Crossing.{editOf}
 
--- a record edited by the record that a row stands for
-pub edited-by : (before after : List ℕ) (group source : ℕ) (new row : Record) (r : Answered) → new ≡ row → RecordEdited before group source new r after → RecordEdited before group source row r after
-edited-by before after group source new row r e p = subst (λ (x : Record). RecordEdited before group source x r after) e p
+-- a record edited by the record that a row stands for, as its caller asks
+pub edited-by : (before after : List ℕ) (group source : ℕ) (new row : Record) (over asked : Override) (r : Answered) → new ≡ row → over ≡ asked → RecordEdited before group source new over r after → RecordEdited before group source row asked r after
+edited-by before after group source new row over asked r e o p = subst (λ (x : Override). RecordEdited before group source row x r after) o (subst (λ (x : Record). RecordEdited before group source x over r after) e p)
 
 -- the answer of a field set, with the record that it holds as a row
 pub edit-told : (x y : Changed) (row : Row) → row ≡ rowFor (x .held) → x ≡ y → record { number = x .number; place = x .place; held = row } ≡ editOf y

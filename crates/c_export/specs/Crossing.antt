@@ -12,6 +12,8 @@ use Rattle.layout.specs.declared.answer.Measured.{Measured}
 use Rattle.layout.specs.declared.answer.Located.{Located}
 use Rattle.layout.specs.declared.answer.Named.{Named}
 use Rattle.layout.specs.declared.edition.Edition.{Edition}
+use Rattle.layout.specs.declared.lock.Override.{Override}
+use Rattle.layout.specs.declared.lock.Override.the-variants.{NotAsked, Asked}
 use Rattle.layout.specs.declared.answer.Standing.{Standing}
 use Rattle.layout.specs.declared.answer.Grouped.{Grouped}
 use Rattle.layout.specs.declared.answer.Channelled.{Channelled}
@@ -98,3 +100,7 @@ asPlaced r = record { number = r .number; place = r .place; note = r .note }
 -- a record after one field byte of it was set
 abbrev pub editOf : Changed → Edited
 editOf c = record { number = c .number; place = c .place; held = rowFor (c .held) }
+
+-- what a caller in C asks for: 1 overrides a lock, and any other number does not
+unfoldable pub overrideBy : ℕ → Override
+overrideBy n = cond (eqb n 1) Asked NotAsked

@@ -15,15 +15,21 @@ use script_words::bytes::first;
 use script_words::hex::is_rec;
 use script_words::word::is_past;
 use script_words::word::next;
+use script_words::word::number;
 use script_words::word::word_at;
 
-// Whether the line ends with the words that its verb asks for. The REC that ends an `edit` is judged here, and those of a `write` where they are taken.
+// Whether a line ends at this place with an OVERRIDE: 0 or 1.
+fn is_override(line: &[u8], at: usize) -> bool {
+    number(word_at(line, at)) <= 1 && is_past(line, next(line, at))
+}
+
+// Whether the line ends with the words that its verb asks for. The REC and the OVERRIDE that end an `edit` are judged here, and the RECs of a `write` where they are taken.
 fn is_whole(line: &[u8], verb: usize, at: usize) -> bool {
     if verb == WRITE {
         return true;
     }
     if verb == EDIT {
-        return is_rec(word_at(line, at)) && is_past(line, next(line, at));
+        return is_rec(word_at(line, at)) && is_override(line, next(line, at));
     }
     is_past(line, at)
 }

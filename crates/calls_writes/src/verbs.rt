@@ -44,7 +44,10 @@ pub fn answer(
             out,
             used,
         ),
-        EDIT => edit(room, asked.count, one, byte(two), last, out, used),
+        EDIT => {
+            let over = word_at(line, next(line, asked.at));
+            edit(room, asked.count, one, byte(two), last, over, out, used)
+        },
         _ => put_bad(out, used),
     }
 }

@@ -5,7 +5,7 @@ use layout::answer::Answered;
 use layout::answer::Changed;
 use layout::record::Record;
 
-// The record with one field byte set, all other fields kept; on refusal the record as it was.
+// The record with one field byte set, all other fields kept; on refusal the record as it was. Of a record that is read only its byte 10 alone is set.
 pub fn set_field(r: Record, index: usize, value: u8) -> Changed
     ensures { λ c. ⌜ FieldSet r index value c ⌝ }
 {

@@ -14,7 +14,7 @@ use Rattle.c_export.proofs.tables.casm_write.Met as casm-write
 use Rattle.c_export.proofs.tables.casm_records.Met as casm-records
 use Rattle.c_row.specs.Rows.{recorded}
 use Rattle.c_row.specs.Flat.{tableOf}
-use Rattle.c_export.specs.Crossing.{answered, asCounted, asMeasured, asLocated, asNamed, asGrouped, asChannelled, asSpanned, asPlayed, asPlaced}
+use Rattle.c_export.specs.Crossing.{answered, asCounted, asMeasured, asLocated, asNamed, asGrouped, asChannelled, asSpanned, asPlayed, asPlaced, overrideBy}
 use Rattle.law_refusals.proofs.Calls.{casm-given, body-given, group-given, part-given, channel-given, voice-given, players-given, note-given}
 use Rattle.law_refusals.proofs.Changes.{write-given, edit-given, salvage-given}
 use Rattle.law_refusals.proofs.Kept.{buffer-kept, body-kept, list-kept}
@@ -68,8 +68,8 @@ pub place-refuses : PlaceRefuses
 place-refuses row root note r p = record { given = note-given (recorded row) root note (asPlaced r) p; nothing = note-nothing (recorded row) root note (asPlaced r) p }
 
 pub edit-refuses : EditRefuses
-edit-refuses before group source row r after p =
-    record { given = edit-given before group source (recorded row) (answered r) after p; nothing = body-kept before group source (recorded row) (answered r) after p }
+edit-refuses before group source row over r after p =
+    record { given = edit-given before group source (recorded row) (overrideBy over) (answered r) after p; nothing = body-kept before group source (recorded row) (overrideBy over) (answered r) after p }
 
 pub field-refuses : FieldRefuses
 field-refuses row index value r p = record { given = field-crossed-given row index value r p; nothing = field-crossed-kept row index value r p }

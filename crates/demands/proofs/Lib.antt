@@ -3,6 +3,7 @@ pub mod Salvage
 pub mod Rounds
 pub mod Positions
 pub mod Editions
+pub mod ReadOnly
 pub mod Placing
 pub mod Playing
 pub mod Refusals

@@ -21,7 +21,7 @@ use Rattle.c_export.specs.declared.answer.Span.{Span}
 use Rattle.c_export.specs.declared.answer.Players.{Players}
 use Rattle.c_export.specs.declared.answer.Note.{Note}
 use Rattle.c_export.specs.declared.answer.Edited.{Edited}
-use Rattle.c_export.specs.Crossing.{answered, asCounted, asMeasured, asLocated, asNamed, asStanding, GroupCrossed, asChannelled, asSpanned, asPlayed, asPlaced, editOf}
+use Rattle.c_export.specs.Crossing.{answered, asCounted, asMeasured, asLocated, asNamed, asStanding, GroupCrossed, asChannelled, asSpanned, asPlayed, asPlaced, editOf, overrideBy}
 use Rattle.c_export.proofs.reading.casm_find.Statement as casm-find
 use Rattle.c_export.proofs.reading.casm_body.Statement as casm-body
 use Rattle.c_export.proofs.reading.casm_part.Statement as casm-part
@@ -114,8 +114,8 @@ PlaceRefuses =
 -- casm_edit
 abbrev pub EditRefuses : Type 0
 EditRefuses =
-    (before : List ℕ) (group source : ℕ) (row : Row) (r : Answer) (after : List ℕ) → RecordEdited before group source (recorded row) (answered r) after
-    → Refusing (EditAsked before group source (recorded row)) (r .number) (r .place) (after ≡ before)
+    (before : List ℕ) (group source : ℕ) (row : Row) (over : ℕ) (r : Answer) (after : List ℕ) → RecordEdited before group source (recorded row) (overrideBy over) (answered r) after
+    → Refusing (EditAsked before group source (recorded row) (overrideBy over)) (r .number) (r .place) (after ≡ before)
 
 -- casm_field: the record as it was
 abbrev pub FieldRefuses : Type 0

@@ -4,6 +4,7 @@ use mathlib.Core.Path.{_≡_}
 use mathlib.Core.List.{List, []}
 use lib.ListN.{length, replicate}
 use Rattle.layout.specs.declared.edition.Edition.the-variants.{First}
+use Rattle.layout.specs.declared.lock.Override.{Override}
 use Rattle.layout.specs.declared.record.Record.{Record}
 use Rattle.layout.specs.declared.answer.Answered.{Answered}
 use Rattle.layout.specs.declared.answer.Counted.{Counted}
@@ -35,7 +36,7 @@ BufferKept =
 -- the lent body of edit_record
 abbrev pub BodyKept : Type 0
 BodyKept =
-    (before : List ℕ) (group channel : ℕ) (new : Record) (r : Answered) (after : List ℕ) → RecordEdited before group channel new r after → (r .number ≡ 0 → ⊥) → after ≡ before
+    (before : List ℕ) (group channel : ℕ) (new : Record) (over : Override) (r : Answered) (after : List ℕ) → RecordEdited before group channel new over r after → (r .number ≡ 0 → ⊥) → after ≡ before
 
 -- the lent record of set_field in place ..
 abbrev pub RecordKept : Type 0

@@ -12,3 +12,4 @@ pub mod ByValue
 pub mod Chords
 pub mod Positions
 pub mod Editions
+pub mod ReadOnly

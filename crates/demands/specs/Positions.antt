@@ -8,6 +8,7 @@ use mathlib.Core.List.{List}
 use lib.ListN.{length, take}
 use Rattle.layout.specs.declared.edition.Edition.{Edition}
 use Rattle.layout.specs.declared.turn.Judged.the-variants.{Sound}
+use Rattle.layout.specs.declared.lock.Override.{Override}
 use Rattle.layout.specs.declared.record.Record.{Record}
 use Rattle.layout.specs.declared.answer.Measured.{Measured}
 use Rattle.layout.specs.Records.{bytesOf, recordOf, editionOf, secondIn, positionIn}
@@ -41,7 +42,7 @@ withPosition position r = recordOf (editionOf r) (bytesOf r) (secondIn r) positi
 
 -- "an edit doesn't read it" ..
 abbrev pub EditedWhateverThePosition : Type 0
-EditedWhateverThePosition = (s : List ℕ) (group channel : ℕ) (new : Record) (position : ℕ) → edited s group channel (withPosition position new) ≡ edited s group channel new
+EditedWhateverThePosition = (s : List ℕ) (group channel : ℕ) (new : Record) (over : Override) (position : ℕ) → edited s group channel (withPosition position new) over ≡ edited s group channel new over
 
 -- .. nor does placing a note ..
 abbrev pub PlacedWhateverThePosition : Type 0

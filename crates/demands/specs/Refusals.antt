@@ -6,6 +6,7 @@ use Prim.Native.Nat.{ℕ}
 use mathlib.Core.Path.{_≡_}
 use mathlib.Core.List.{List}
 use lib.ListN.{length}
+use Rattle.layout.specs.declared.lock.Override.{Override}
 use Rattle.layout.specs.declared.record.Record.{Record}
 use Rattle.layout.specs.declared.answer.Answered.{Answered}
 use Rattle.layout.specs.declared.answer.Counted.{Counted}
@@ -80,8 +81,8 @@ GroupWrittenRefused =
 -- edit_record
 abbrev pub RecordEditedRefused : Type 0
 RecordEditedRefused =
-    (before : List ℕ) (group channel : ℕ) (new : Record) (r : Answered) (after : List ℕ) → RecordEdited before group channel new r after
-    → GivenUnder (EditAsked before group channel new) (r .number) (r .place)
+    (before : List ℕ) (group channel : ℕ) (new : Record) (over : Override) (r : Answered) (after : List ℕ) → RecordEdited before group channel new over r after
+    → GivenUnder (EditAsked before group channel new over) (r .number) (r .place)
 
 -- set_field, by value ..
 abbrev pub FieldSetRefused : Type 0

@@ -9,6 +9,7 @@ use lib.ListN.{length, take, set}
 use Rattle.layout.specs.declared.edition.Edition.{Edition}
 use Rattle.layout.specs.declared.turn.Run.the-variants.{Ended}
 use Rattle.layout.specs.declared.turn.Judged.the-variants.{Sound}
+use Rattle.layout.specs.declared.lock.Override.{Override}
 use Rattle.layout.specs.declared.record.Record.{Record}
 use Rattle.layout.specs.declared.answer.Answered.{Answered}
 use Rattle.layout.specs.declared.answer.Counted.{Counted}
@@ -63,7 +64,7 @@ AcceptedExactly = (s : List ℕ) (n : ℕ) → Bytes s → (bodyRun s ≡ Ended 
 -- "editing replaces the record of a given group and source channel inside a body": it is read so, and its Cntt is kept
 abbrev pub EditReadsBack : Type 0
 EditReadsBack =
-    (s after : List ℕ) (group channel : ℕ) (new : Record) → Bytes s → Whole new → edited s group channel new ≡ granted after → EditRead s after group channel new
+    (s after : List ℕ) (group channel : ℕ) (new : Record) (over : Override) → Bytes s → Whole new → edited s group channel new over ≡ granted after → EditRead s after group channel new
 
 -- "sets one field byte of it .. all other fields kept"
 abbrev pub FieldAlone : Type 0
@@ -89,7 +90,7 @@ WrittenThenReadAtTheCalls =
 -- an edit that accepts is read back, and "only that Ctab's 27 bytes may change"
 abbrev pub EditReadsBackAtTheCall : Type 0
 EditReadsBackAtTheCall =
-    (before : List ℕ) (group channel : ℕ) (new : Record) (a : Answered) (after : List ℕ) → Bytes before → Whole new → RecordEdited before group channel new a after
+    (before : List ℕ) (group channel : ℕ) (new : Record) (over : Override) (a : Answered) (after : List ℕ) → Bytes before → Whole new → RecordEdited before group channel new over a after
     → a .number ≡ 0 → EditRead before after group channel new × CtabChanged before group channel new after
 
 -- a field set by value: where it accepts that byte alone is new, where it refuses the record is as it was ..

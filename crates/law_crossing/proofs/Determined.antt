@@ -29,7 +29,7 @@ use Rattle.c_export.specs.declared.answer.Span.{Span}
 use Rattle.c_export.specs.declared.answer.Players.{Players}
 use Rattle.c_export.specs.declared.answer.Note.{Note}
 use Rattle.c_export.specs.declared.answer.Edited.{Edited}
-use Rattle.c_export.specs.Crossing.{answered, asCounted, asMeasured, asLocated, asNamed, asGrouped, asChannelled, asSpanned, asPlayed, asPlaced, editOf, editionTold, GroupCrossed}
+use Rattle.c_export.specs.Crossing.{answered, asCounted, asMeasured, asLocated, asNamed, asGrouped, asChannelled, asSpanned, asPlayed, asPlaced, editOf, editionTold, GroupCrossed, overrideBy}
 use Rattle.casm_by_value.specs.declared.Filled.{Filled}
 use Rattle.law_salvage.specs.Determined.{Determines, DeterminesBoth}
 use Rattle.law_salvage.proofs.Determined as face
@@ -121,9 +121,9 @@ casm-field row index value x y p q = p ∙ sym q
 pub casm-salvage : (body before : List ℕ) → DeterminesBoth (λ (r : Count) (after : List ℕ). Salvaged body before (asCounted r) after)
 casm-salvage body before = crossing-determines-both asCounted count (λ x. refl) (Salvaged body before) (face.salvaged body before)
 
-pub casm-edit : (before : List ℕ) (group source : ℕ) (row : Row) → DeterminesBoth (λ (r : Answer) (after : List ℕ). RecordEdited before group source (recorded row) (answered r) after)
-casm-edit before group source row =
-    crossing-determines-both answered answer (λ x. refl) (RecordEdited before group source (recorded row)) (face.record-edited before group source (recorded row))
+pub casm-edit : (before : List ℕ) (group source : ℕ) (row : Row) (over : ℕ) → DeterminesBoth (λ (r : Answer) (after : List ℕ). RecordEdited before group source (recorded row) (overrideBy over) (answered r) after)
+casm-edit before group source row over =
+    crossing-determines-both answered answer (λ x. refl) (RecordEdited before group source (recorded row) (overrideBy over)) (face.record-edited before group source (recorded row) (overrideBy over))
 
 pub casm-write : (text flat : List ℕ) (n : ℕ) (before : List ℕ) → DeterminesBoth (λ (r : Length) (after : List ℕ). GroupWritten text (tableOf flat) n before (asMeasured r) after)
 casm-write text flat n before =

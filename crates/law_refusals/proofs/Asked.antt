@@ -10,9 +10,11 @@ use borrow.Author.Tests.{ltb-true, leb-true, leb-false, eqb-true, eqb-false, not
 use Rattle.layout.specs.Lists.{has}
 use Rattle.layout.specs.declared.turn.Run.{Run}
 use Rattle.layout.specs.declared.turn.Run.the-variants.{Stopped, Ended}
+use Rattle.layout.specs.declared.lock.Override.{Override}
 use Rattle.layout.specs.declared.record.Record.{Record}
 use Rattle.layout.specs.declared.answer.Standing.{Standing}
 use Rattle.layout.specs.Editions.{held, alike}
+use Rattle.layout.specs.Lock.{keeps}
 use Rattle.layout.specs.Ranges.{outAt, firstOut}
 use Rattle.layout.specs.Records.{bytesOf, channelOf, editionOf}
 use Rattle.layout.specs.Sdec.{names}
@@ -29,7 +31,7 @@ use Rattle.layout.proofs.Choices.{either}
 use Rattle.law_refusals.specs.Contents.{FirstSuch}
 use Rattle.law_refusals.specs.Body.{BodyRefused, HasGroups}
 use Rattle.law_refusals.specs.After.{HasGroup, GroupAsked, of-body, no-group, RecordsAsked, of-group, no-room, NoPart, PartAsked, part-of-body, no-part}
-use Rattle.law_refusals.specs.After.{PlayersAsked, players-of-body, root-over, type-over, no-players, ChannelAsked, channel-of-group, no-channel, HasChannel, EditAsked, edit-of-channel, other-source, other-edition, new-byte}
+use Rattle.law_refusals.specs.After.{PlayersAsked, players-of-body, root-over, type-over, no-players, ChannelAsked, channel-of-group, no-channel, HasChannel, EditAsked, edit-of-channel, other-source, other-edition, lockIn, read-only, new-byte}
 use Rattle.law_refusals.proofs.Told.{RunTold, AnswerTold, after-told}
 use Rattle.law_refusals.proofs.Heads.{first-such}
 use Rattle.layout.proofs.Seen.{ctab-seen, ctab-unseen}
@@ -58,7 +60,7 @@ module _ {A : Type 0} (P : ℕ → ℕ → Type 0) (s : List ℕ) where
 
   -- what is asked of the record of a source channel in it
   of-channel-told : (g channel : ℕ) → ((number place : ℕ) → ChannelAsked s g channel number place → P number place) → (ask : Whereabouts → Answer A)
-      → ((i : ℕ) → HasChannel s g channel → AnswerTold P (ask (rowOf (standing s g) i))) → AnswerTold P (ofGroup s g (ofChannel s (standing s g) channel ask))
+      → (HasChannel s g channel → AnswerTold P (ask (rowOf (standing s g) (rowIn s (standing s g) channel)))) → AnswerTold P (ofGroup s g (ofChannel s (standing s g) channel ask))
   unfolding ofChannel rowIn
   of-channel-told g channel f ask tell =
       let x : Standing = standing s g in
@@ -69,7 +71,7 @@ module _ {A : Type 0} (P : ℕ → ℕ → Type 0) (s : List ℕ) where
       (λ e. f 15 0 (no-channel group (ctab-unseen (x .edition) s (x .ctabs) (x .records) channel (leb-true _ _ e))))
       (λ e.
       let l = leb-false (x .records) i e in
-      tell i (record { group = group; row = i; within = l; source = ctab-seen (x .edition) s (x .ctabs) (x .records) channel l })))
+      tell (record { group = group; row = i; within = l; source = ctab-seen (x .edition) s (x .ctabs) (x .records) channel l })))
 
 -- no group has the part
 module _ (s : List ℕ) (n : ℕ) (name : List ℕ) where
@@ -126,21 +128,23 @@ module _ (s : List ℕ) where
   module _ (g channel : ℕ) where
     pub channel-asked : AnswerTold (ChannelAsked s g channel) (channelFound s g channel)
     unfolding channelFound
-    channel-asked = of-channel-told (ChannelAsked s g channel) s g channel (λ number place h. h) (λ row. granted row) (λ i has. tt)
+    channel-asked = of-channel-told (ChannelAsked s g channel) s g channel (λ number place h. h) (λ row. granted row) (λ has. tt)
 
     pub voice-asked : AnswerTold (ChannelAsked s g channel) (voiceSpan s g channel)
     unfolding voiceSpan
-    voice-asked = of-channel-told (ChannelAsked s g channel) s g channel (λ number place h. h) (λ row. granted (voiceSpanAt s (row .at))) (λ i has. tt)
+    voice-asked = of-channel-told (ChannelAsked s g channel) s g channel (λ number place h. h) (λ row. granted (voiceSpanAt s (row .at))) (λ has. tt)
 
-    pub edit-asked : (new : Record) → AnswerTold (EditAsked s g channel new) (edited s g channel new)
+    pub edit-asked : (new : Record) (over : Override) → AnswerTold (EditAsked s g channel new over) (edited s g channel new over)
     unfolding edited
-    edit-asked new =
-        let P = EditAsked s g channel new in
+    edit-asked new over =
+        let P = EditAsked s g channel new over in
         let k : ℕ = firstEdited new in
-        of-channel-told P s g channel (λ number place h. edit-of-channel number place h) _ (λ i has.
+        of-channel-told P s g channel (λ number place h. edit-of-channel number place h) _ (λ has.
         either (AnswerTold P) (not (eqb (channelOf new) channel)) _ _ (λ e. other-source has (eqb-false _ _ (not-true _ e))) (λ e.
         let source = eqb-true (channelOf new) channel (not-false _ e) in
         either (AnswerTold P) (not (alike (standing s g .edition) (editionOf new))) _ _ (λ u. other-edition has source (unlike-is _ _ (not-true _ u))) (λ u.
+        let like = alike-is (standing s g .edition) (editionOf new) (not-false _ u) in
+        either (AnswerTold P) (keeps over (lockIn s g channel)) _ _ (λ v. read-only has source like v) (λ v.
         either (AnswerTold P) (ltb k (held (editionOf new))) _ _
-        (λ f. new-byte k has source (alike-is _ _ (not-false _ u)) (edited-byte new k refl (ltb-true _ _ f)))
-        (λ f. tt))))
+        (λ f. new-byte k has source like v (edited-byte new k refl (ltb-true _ _ f)))
+        (λ f. tt)))))

@@ -7,6 +7,7 @@ use native.Mathlib.Omega.{arith}
 use lib.Dec.{leb}
 use lib.ListN.{length}
 use borrow.Author.Tests.{lt-ltb, le-leb, lt-leb, eq-eqb, ne-eqb}
+use Rattle.layout.specs.declared.lock.Override.{Override}
 use Rattle.layout.specs.declared.record.Record.{Record}
 use Rattle.layout.specs.Lists.{has}
 use Rattle.layout.specs.Editions.{held}
@@ -23,7 +24,7 @@ use Rattle.layout.proofs.Scans.{first-is, first-none}
 use Rattle.law_refusals.specs.Contents.{FirstSuch}
 use Rattle.law_refusals.specs.Body.{BodyRefused}
 use Rattle.law_refusals.specs.After.{HasGroup, GroupAsked, of-body, no-group, RecordsAsked, of-group, no-room, NoPart, PartAsked, part-of-body, no-part}
-use Rattle.law_refusals.specs.After.{PlayersAsked, players-of-body, root-over, type-over, no-players, ChannelAsked, channel-of-group, no-channel, HasChannel, EditAsked, edit-of-channel, other-source, other-edition, new-byte}
+use Rattle.law_refusals.specs.After.{PlayersAsked, players-of-body, root-over, type-over, no-players, ChannelAsked, channel-of-group, no-channel, HasChannel, EditAsked, edit-of-channel, other-source, other-edition, read-only, new-byte}
 use Rattle.law_refusals.proofs.Reached.{alike-so, alike-not}
 use Rattle.law_refusals.proofs.CtabsExact.{ctab-has, ctab-has-not}
 use Rattle.law_refusals.proofs.BodyExact.{body-answers, body-ended}
@@ -91,7 +92,7 @@ module _ (s : List ℕ) where
         let x = standing s g in
         group-so g _ h ∙ rw (le-leb (x .records) _ (ctab-has-not (x .edition) s (x .ctabs) (x .records) channel f))
 
-    channel-so : HasChannel s g channel → ofGroup s g (ofChannel s (standing s g) channel ask) ≡ ask (rowOf (standing s g) (rowIn s (standing s g) channel))
+    pub channel-so : HasChannel s g channel → ofGroup s g (ofChannel s (standing s g) channel ask) ≡ ask (rowOf (standing s g) (rowIn s (standing s g) channel))
     unfolding ofChannel rowIn
     channel-so h =
         let x = standing s g in
@@ -111,10 +112,11 @@ module _ (s : List ℕ) where
   unfolding firstEdited firstOut
   first-edited new k f = first-is (outAt (editionOf new) (bytesOf new) 0) (held (editionOf new)) k (f .within) (f .passes) (f .before)
 
-  pub edit-answers : (g channel : ℕ) (new : Record) (number place : ℕ) → EditAsked s g channel new number place → edited s g channel new ≡ refused number place
+  pub edit-answers : (g channel : ℕ) (new : Record) (over : Override) (number place : ℕ) → EditAsked s g channel new over number place → edited s g channel new over ≡ refused number place
   unfolding edited
-  edit-answers g channel new _ _ (edit-of-channel number place h) = channel-not g channel _ number place h
-  edit-answers g channel new _ _ (other-source h f) = channel-so g channel _ h ∙ rw (ne-eqb (channelOf new) channel f)
-  edit-answers g channel new _ _ (other-edition h e f) = channel-so g channel _ h ∙ rw (eq-eqb (channelOf new) channel e, alike-not (standing s g .edition) (editionOf new) f)
-  edit-answers g channel new _ _ (new-byte k h e q f) =
-      channel-so g channel _ h ∙ rw (eq-eqb (channelOf new) channel e, alike-so (standing s g .edition) (editionOf new) q, first-edited new k f, lt-ltb k (held (editionOf new)) (f .within))
+  edit-answers g channel new over _ _ (edit-of-channel number place h) = channel-not g channel _ number place h
+  edit-answers g channel new over _ _ (other-source h f) = channel-so g channel _ h ∙ rw (ne-eqb (channelOf new) channel f)
+  edit-answers g channel new over _ _ (other-edition h e f) = channel-so g channel _ h ∙ rw (eq-eqb (channelOf new) channel e, alike-not (standing s g .edition) (editionOf new) f)
+  edit-answers g channel new over _ _ (read-only h e q v) = channel-so g channel _ h ∙ rw (eq-eqb (channelOf new) channel e, alike-so (standing s g .edition) (editionOf new) q, v)
+  edit-answers g channel new over _ _ (new-byte k h e q v f) =
+      channel-so g channel _ h ∙ rw (eq-eqb (channelOf new) channel e, alike-so (standing s g .edition) (editionOf new) q, v, first-edited new k f, lt-ltb k (held (editionOf new)) (f .within))

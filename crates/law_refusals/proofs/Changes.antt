@@ -6,6 +6,7 @@ use mathlib.Core.Bool.{true}
 use mathlib.Core.List.{List}
 use native.Mathlib.Omega.{arith}
 use lib.ListN.{length, take}
+use Rattle.layout.specs.declared.lock.Override.{Override}
 use Rattle.layout.specs.declared.record.Record.{Record}
 use Rattle.layout.specs.declared.answer.Answered.{Answered}
 use Rattle.layout.specs.declared.answer.Counted.{Counted}
@@ -55,11 +56,11 @@ positions-exactly text table count before r after p =
     let g = write-given text table count before r after p in
     (λ e. eighteen text table count (length before) (r .number) (r .place) (g .only (λ z. absurd (omega arith))) e, λ h. g .always 18 0 (positions-wrong (h .0) (h .1 .0) (h .1 .1 .0) (h .1 .1 .1)) .0)
 
-pub edit-given : (before : List ℕ) (g channel : ℕ) (new : Record) (r : Answered) (after : List ℕ) → RecordEdited before g channel new r after
-    → GivenUnder (EditAsked before g channel new) (r .number) (r .place)
+pub edit-given : (before : List ℕ) (g channel : ℕ) (new : Record) (over : Override) (r : Answered) (after : List ℕ) → RecordEdited before g channel new over r after
+    → GivenUnder (EditAsked before g channel new over) (r .number) (r .place)
 unfolding answered
-edit-given before g channel new r after p =
-    given (EditAsked before g channel new) (edit-asked-above before g channel new) (edited before g channel new) (edit-asked before g channel new) (edit-answers before g channel new) (r .number) (r .place)
+edit-given before g channel new over r after p =
+    given (EditAsked before g channel new over) (edit-asked-above before g channel new over) (edited before g channel new over) (edit-asked before g channel new over) (edit-answers before g channel new over) (r .number) (r .place)
     (ap (λ (x : Answered). x .number) (p .answer)) (ap (λ (x : Answered). x .place) (p .answer))
 
 pub field-given : (old : Record) (index value : ℕ) (r : Changed) → FieldSet old index value r → GivenUnder (FieldRefused old index value) (r .number) (r .place)

@@ -3,6 +3,7 @@ use Prim.Native.Nat.{ℕ}
 use mathlib.Core.Path.{_≡_, refl, sym, ap, _∙_}
 use mathlib.Core.List.{List, []}
 use lib.ListN.{length}
+use Rattle.layout.specs.declared.lock.Override.{Override}
 use Rattle.layout.specs.declared.record.Record.{Record}
 use Rattle.layout.specs.declared.answer.Answered.{Answered}
 use Rattle.layout.specs.declared.answer.Counted.{Counted}
@@ -57,11 +58,11 @@ buffer-kept text table count before r after p z =
     let e : r .number ≡ numberOf a = ap (λ (x : Measured). x .number) (p .answer) in
     (p .buffer ∙ lent-kept a before (r .number) e z, ap (λ (x : Measured). x .length) (p .answer) ∙ ap length (none-given a (r .number) e z []))
 
-pub body-kept : (before : List ℕ) (g channel : ℕ) (new : Record) (r : Answered) (after : List ℕ) → RecordEdited before g channel new r after
+pub body-kept : (before : List ℕ) (g channel : ℕ) (new : Record) (over : Override) (r : Answered) (after : List ℕ) → RecordEdited before g channel new over r after
     → (r .number ≡ 0 → ⊥) → after ≡ before
 unfolding answered
-body-kept before g channel new r after p z =
-    p .body ∙ none-given (edited before g channel new) (r .number) (ap (λ (x : Answered). x .number) (p .answer)) z before
+body-kept before g channel new over r after p z =
+    p .body ∙ none-given (edited before g channel new over) (r .number) (ap (λ (x : Answered). x .number) (p .answer)) z before
 
 pub record-kept : (before : Record) (index value : ℕ) (r : Answered) (after : Record) → FieldSetInPlace before index value r after
     → (r .number ≡ 0 → ⊥) → after ≡ before

@@ -24,6 +24,7 @@ pub mod BodyExact
 pub mod AskedExact
 pub mod RecordsExact
 pub mod PlacedBySet
+pub mod Locked
 pub mod Given
 pub mod Calls
 pub mod Changes

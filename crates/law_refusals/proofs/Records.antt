@@ -9,6 +9,7 @@ use lib.ListN.{length}
 use borrow.Author.Tests.{ltb-true, ltb-false, leb-true, leb-false, eqb-true, eqb-false}
 use Rattle.layout.specs.declared.record.Record.{Record}
 use Rattle.layout.specs.Editions.{held}
+use Rattle.layout.specs.Lock.{locks}
 use Rattle.layout.specs.Ranges.{outOf, ruleAt}
 use Rattle.layout.specs.Records.{bytesOf, editionOf, badByte, firstBad}
 use Rattle.layout.specs.Salvage.{salvage, listNumbers, salvaged}
@@ -17,7 +18,7 @@ use Rattle.layout.specs.Screen.{fieldSet}
 use Rattle.layout.proofs.Scans.{first-passed}
 use Rattle.read_salvage.proofs.Room.{numbers-length}
 use Rattle.layout.proofs.Choices.{either}
-use Rattle.law_refusals.specs.Records.{FirstBadByte, InRange, PlaceRefused, root-out, note-out, record-byte, root-fixed, rule-two, FieldRefused, index-out, value-out, SalvageRefused, list-over, list-short}
+use Rattle.law_refusals.specs.Records.{FirstBadByte, InRange, PlaceRefused, root-out, note-out, record-byte, root-fixed, rule-two, FieldRefused, index-out, field-locked, value-out, SalvageRefused, list-over, list-short}
 use Rattle.law_refusals.proofs.Told.{AnswerTold}
 use Rattle.law_refusals.proofs.Heads.{first-such}
 
@@ -71,7 +72,9 @@ module _ (r : Record) where
   field-told index value =
       let T = AnswerTold (FieldRefused r index value) in
       either T (leb (held (editionOf r)) index) _ _ (λ e. index-out (leb-true _ _ e)) (λ e.
-      either T (outOf (editionOf r) index (ruleAt (bytesOf r) 0 index) value) _ _ (λ f. value-out (leb-false _ _ e) f) (λ f. tt))
+      let within = leb-false (held (editionOf r)) index e in
+      either T (not (eqb index 10) && locks (r .locked)) _ _ (λ v. field-locked within v) (λ v.
+      either T (outOf (editionOf r) index (ruleAt (bytesOf r) 0 index) value) _ _ (λ f. value-out within v f) (λ f. tt)))
 
 -- ---- the salvage list
 

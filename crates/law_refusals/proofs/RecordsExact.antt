@@ -24,7 +24,7 @@ use Rattle.layout.proofs.Scans.{first-none}
 use Rattle.layout.proofs.Runs.{run-end}
 use Rattle.read_salvage.proofs.Room.{numbers-length}
 use Rattle.law_refusals.specs.Records.{FirstBadByte, InRange, PlaceRefused, root-out, note-out, record-byte, root-fixed, rule-two, RecordsBefore, WriteRefused, count-over, text-broken, table-edition, table-byte, table-again, positions-wrong, buffer-short}
-use Rattle.law_refusals.specs.Records.{FieldRefused, index-out, value-out, SalvageRefused, list-over, list-short}
+use Rattle.law_refusals.specs.Records.{FieldRefused, index-out, field-locked, value-out, SalvageRefused, list-over, list-short}
 use Rattle.law_refusals.proofs.Reached.{run-from, run-reaches, such-first, alike-so, alike-not}
 use Rattle.law_refusals.proofs.TextExact.{text-not}
 use Rattle.law_refusals.proofs.Written.{record-seen, record-unseen}
@@ -54,7 +54,8 @@ module _ (r : Record) where
   pub field-answers : (index value number place : ℕ) → FieldRefused r index value number place → fieldSet r index value ≡ refused number place
   unfolding fieldSet
   field-answers index value _ _ (index-out l) = rw (le-leb (held (editionOf r)) index l)
-  field-answers index value _ _ (value-out l e) = rw (lt-leb (held (editionOf r)) index l, e)
+  field-answers index value _ _ (field-locked l v) = rw (lt-leb (held (editionOf r)) index l, v)
+  field-answers index value _ _ (value-out l v e) = rw (lt-leb (held (editionOf r)) index l, v, e)
 
 -- ---- writing
 

@@ -1,16 +1,19 @@
--- When a question about a body is refused (document 01, "Numbers of refusal": "after the body: 16 for numbers, 15, then an edit's source channel 16, then 9"; "room (14) comes last in every call"; document 02, §4: 21).
-use Prim.Native.Nat.{ℕ, _<_, _≤_}
+-- When a question about a body is refused (document 01, "Numbers of refusal": "after the body: 16 for numbers, 15, then an edit's source channel 16, then 9"; "room (14) comes last in every call"; document 02, §4: 21; §6: 22).
+use Prim.Native.Nat.{ℕ, _+_, _<_, _≤_}
 use mathlib.Core.Path.{_≡_}
+use mathlib.Core.Bool.{true, false}
 use mathlib.Core.List.{List}
-use lib.ListN.{length}
+use lib.ListN.{length, getD}
+use Rattle.layout.specs.declared.lock.Override.{Override}
 use Rattle.layout.specs.declared.record.Record.{Record}
-use Rattle.layout.specs.Refusals.{outOfRange, noRoom, notThere, badNumber, otherEdition}
+use Rattle.layout.specs.Refusals.{outOfRange, noRoom, notThere, badNumber, otherEdition, readOnly}
 use Rattle.layout.specs.Editions.{held}
+use Rattle.layout.specs.Lock.{lockByte, keeps}
 use Rattle.layout.specs.Ranges.{outAt}
 use Rattle.layout.specs.Records.{bytesOf, channelOf, editionOf}
 use Rattle.layout.specs.Group.{ctabChannel}
 use Rattle.layout.specs.Body.{groupNo}
-use Rattle.layout.specs.Asked.{standing}
+use Rattle.layout.specs.Asked.{standing, rowOf, rowIn}
 use Rattle.layout.specs.Plays.{rootCount, typeCount}
 use Rattle.law_refusals.specs.Contents.{FirstSuch}
 use Rattle.law_refusals.specs.Body.{Named, BodyRefused, HasGroups}
@@ -76,12 +79,18 @@ pub record HasChannel (s : List ℕ) (g channel : ℕ) : Type 0 where
   pub within : row < standing s g .records
   pub source : sourceIn s g row ≡ channel
 
-pub data EditAsked (s : List ℕ) (g channel : ℕ) (new : Record) : ℕ → ℕ → Type 0 where
-  edit-of-channel : (number place : ℕ) → ChannelAsked s g channel number place → EditAsked s g channel new number place
+-- byte 10 of that record, as it stands in the body
+abbrev pub lockIn : List ℕ → ℕ → ℕ → ℕ
+lockIn s g channel = getD s (rowOf (standing s g) (rowIn s (standing s g) channel) .at + lockByte) 0
+
+pub data EditAsked (s : List ℕ) (g channel : ℕ) (new : Record) (over : Override) : ℕ → ℕ → Type 0 where
+  edit-of-channel : (number place : ℕ) → ChannelAsked s g channel number place → EditAsked s g channel new over number place
   -- 16: "an edit with another source channel", at 0
-  other-source : HasChannel s g channel → (channelOf new ≡ channel → ⊥) → EditAsked s g channel new badNumber 0
+  other-source : HasChannel s g channel → (channelOf new ≡ channel → ⊥) → EditAsked s g channel new over badNumber 0
   -- 21: "an edit's record unlike the body's", at 0
-  other-edition : HasChannel s g channel → channelOf new ≡ channel → (standing s g .edition ≡ editionOf new → ⊥) → EditAsked s g channel new otherEdition 0
+  other-edition : HasChannel s g channel → channelOf new ≡ channel → (standing s g .edition ≡ editionOf new → ⊥) → EditAsked s g channel new over otherEdition 0
+  -- 22: "read only, place 10": locked in the body, and the caller does not ask to override
+  read-only : HasChannel s g channel → channelOf new ≡ channel → standing s g .edition ≡ editionOf new → keeps over (lockIn s g channel) ≡ true → EditAsked s g channel new over readOnly lockByte
   -- 9: "byte out of range, first one"; "in an edit .. it is the byte"; "a Cntt given with the new record is neither read nor checked"
-  new-byte : (k : ℕ) → HasChannel s g channel → channelOf new ≡ channel → standing s g .edition ≡ editionOf new → FirstSuch (outAt (editionOf new) (bytesOf new) 0) (held (editionOf new)) k
-      → EditAsked s g channel new outOfRange k
+  new-byte : (k : ℕ) → HasChannel s g channel → channelOf new ≡ channel → standing s g .edition ≡ editionOf new → keeps over (lockIn s g channel) ≡ false → FirstSuch (outAt (editionOf new) (bytesOf new) 0) (held (editionOf new)) k
+      → EditAsked s g channel new over outOfRange k

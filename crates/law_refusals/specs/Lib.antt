@@ -5,5 +5,6 @@ pub mod Text
 pub mod Contents
 pub mod Body
 pub mod After
+pub mod Before
 pub mod Records
 pub mod Salvage

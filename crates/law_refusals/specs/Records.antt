@@ -1,14 +1,16 @@
 -- When records in memory are refused: placement, writing and the screen; and the salvage list (document 01, "Numbers of refusal": "placement: 16, 9, 17. Writing: 16 .., 8, per record 9 then 10, 14.
--- Screen: 16, then 9"; "salvage: 3"; document 02, §1: 18; §4: 21).
+-- Screen: 16, then 9"; "salvage: 3"; document 02, §1: 18; §4: 21; §6: 22).
 use Prim.Native.Nat.{ℕ, _+_, _*_, _<_, _≤_}
 use mathlib.Core.Path.{_≡_}
-use mathlib.Core.Bool.{true, false}
+use mathlib.Core.Bool.{true, false, not, _&&_}
 use mathlib.Core.List.{List}
+use lib.Dec.{eqb}
 use lib.ListN.{length, getD, take}
 use Rattle.layout.specs.declared.record.Record.{Record}
 use Rattle.layout.specs.declared.record.SecondTable.the-variants.{Absent, Value}
-use Rattle.layout.specs.Refusals.{overLimit, badText, outOfRange, channelAgain, noRoom, badNumber, rootFixed, badPositions, otherEdition}
+use Rattle.layout.specs.Refusals.{overLimit, badText, outOfRange, channelAgain, noRoom, badNumber, rootFixed, badPositions, otherEdition, readOnly}
 use Rattle.layout.specs.Editions.{size, held}
+use Rattle.layout.specs.Lock.{lockByte, locks}
 use Rattle.layout.specs.Ranges.{outOf, ruleAt}
 use Rattle.layout.specs.Records.{blank, bytesOf, channelOf, editionOf, secondIn, positionIn, badByte}
 use Rattle.layout.specs.Sdec.{soundText}
@@ -84,8 +86,10 @@ pub data WriteRefused (text : List ℕ) (table : List Record) (count room : ℕ)
 pub data FieldRefused (r : Record) (index value : ℕ) : ℕ → ℕ → Type 0 where
   -- 16: "field index .. out of range", at 0
   index-out : held (editionOf r) ≤ index → FieldRefused r index value badNumber 0
+  -- 22: of a locked record, but "setting byte index 10 itself is never refused with 22" (document 02, §6), at 10
+  field-locked : index < held (editionOf r) → not (eqb index lockByte) && locks (r .locked) ≡ true → FieldRefused r index value readOnly lockByte
   -- 9: "for the set value alone", at the byte; "a table judged by the rule the record then has" (document 02, §4)
-  value-out : index < held (editionOf r) → outOf (editionOf r) index (ruleAt (bytesOf r) 0 index) value ≡ true → FieldRefused r index value outOfRange index
+  value-out : index < held (editionOf r) → not (eqb index lockByte) && locks (r .locked) ≡ false → outOf (editionOf r) index (ruleAt (bytesOf r) 0 index) value ≡ true → FieldRefused r index value outOfRange index
 
 -- ---- the salvage list, into a lent list of so many numbers, three an entry
 

@@ -8,6 +8,7 @@ use lib.ListN.{length, getD}
 use Rattle.layout.specs.Lists.{those}
 use Rattle.layout.specs.declared.record.Form.{Form}
 use Rattle.layout.specs.declared.record.Form.the-variants.{One, Three}
+use Rattle.layout.specs.declared.lock.Override.{Override}
 use Rattle.layout.specs.declared.record.Record.{Record}
 use Rattle.layout.specs.Records.{setBytes, tailBytes, tripleBytes, formBytes, headBytes, bytesOf, setAt, tailAt, formOf, recordWith, recordOf, blank, channelOf, formEdition, formSecond, editionOf, secondIn, badByte, firstBad, fileBytes}
 use Rattle.layout.specs.Group.{Group}
@@ -66,9 +67,9 @@ module _ (position : ℕ) (r : Record) where
   position-bad = form-bad (r .form)
 
 -- an edit ..
-pub edited-any-position : (s : List ℕ) (group channel : ℕ) (new : Record) (position : ℕ) → edited s group channel (withPosition position new) ≡ edited s group channel new
+pub edited-any-position : (s : List ℕ) (group channel : ℕ) (new : Record) (over : Override) (position : ℕ) → edited s group channel (withPosition position new) over ≡ edited s group channel new over
 unfolding edited firstEdited fileBytes
-edited-any-position s group channel new position = rw (position-channel position new, position-bytes position new, position-edition position new)
+edited-any-position s group channel new over position = rw (position-channel position new, position-bytes position new, position-edition position new)
 
 -- .. a placed note ..
 pub placed-any-position : (r : Record) (root note position : ℕ) → notePlaced (withPosition position r) root note ≡ notePlaced r root note

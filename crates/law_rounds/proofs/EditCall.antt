@@ -7,6 +7,7 @@ use lib.ListN.{length, take, drop}
 use borrow.Author.Tests.{lt-leb}
 use Rattle.layout.specs.Editions.{size}
 use Rattle.layout.specs.Group.{ctabPlace}
+use Rattle.layout.specs.declared.lock.Override.{Override}
 use Rattle.layout.specs.declared.record.Record.{Record}
 use Rattle.layout.specs.declared.answer.Answered.{Answered}
 use Rattle.layout.specs.Records.{editionOf, fileBytes}
@@ -28,7 +29,7 @@ use Rattle.law_rounds.proofs.EditPlace.{edit-placed}
 use Rattle.law_rounds.proofs.EditRounds.{edit-back}
 use Rattle.law_rounds.proofs.Numbered.{accepts-granted, edited-numbered}
 
-module _ (s : List ℕ) (g channel : ℕ) (new : Record) (b : Bytes s) (w : Whole new) (after : List ℕ) (q : EditGranted s after g channel new (standing s g)) where
+module _ (s : List ℕ) (g channel : ℕ) (new : Record) (over : Override) (b : Bytes s) (w : Whole new) (after : List ℕ) (q : EditGranted s after g channel new over (standing s g)) where
   -- the record that is replaced, and where its bytes stand
   abbrev row : Whereabouts
   row = rowOf (standing s g) (rowIn s (standing s g) channel)
@@ -55,11 +56,16 @@ module _ (s : List ℕ) (g channel : ℕ) (new : Record) (b : Bytes s) (w : Whol
         bytes = q .is ∙ ap (λ n. take (row .at) s ++ (fileBytes new ++ drop (row .at + n) s)) (length-file new);
       }
 
-pub edit-call : (s : List ℕ) (g channel : ℕ) (new : Record) (r : Answered) (after : List ℕ) → Bytes s → Whole new → RecordEdited s g channel new r after → r .number ≡ 0
-    → EditRead s after g channel new × CtabChanged s g channel new after
+-- an accepted edit is granted
+pub edit-accepted : (s : List ℕ) (g channel : ℕ) (new : Record) (over : Override) (r : Answered) (after : List ℕ) → RecordEdited s g channel new over r after → r .number ≡ 0 → edited s g channel new over ≡ granted after
 unfolding answered valueOr
-edit-call s g channel new r after b w p z =
-    let x = accepts-granted (edited s g channel new) (edited-numbered s g channel new) (sym (ap (λ (a : Answered). a .number) (p .answer)) ∙ z) in
+edit-accepted s g channel new over r after p z =
+    let x = accepts-granted (edited s g channel new over) (edited-numbered s g channel new over) (sym (ap (λ (a : Answered). a .number) (p .answer)) ∙ z) in
     let is : x .0 ≡ after = sym (rw (x .1) at (p .body)) in
-    let e : edited s g channel new ≡ granted after = x .1 ∙ ap granted is in
-    (edit-back s after g channel new b w e, ctab-changed s g channel new b w after (edit-granted s after g channel new e))
+    x .1 ∙ ap granted is
+
+pub edit-call : (s : List ℕ) (g channel : ℕ) (new : Record) (over : Override) (r : Answered) (after : List ℕ) → Bytes s → Whole new → RecordEdited s g channel new over r after → r .number ≡ 0
+    → EditRead s after g channel new × CtabChanged s g channel new after
+edit-call s g channel new over r after b w p z =
+    let e = edit-accepted s g channel new over r after p z in
+    (edit-back s after g channel new over b w e, ctab-changed s g channel new over b w after (edit-granted s after g channel new over e))

@@ -5,6 +5,7 @@ use mathlib.Core.List.{List, flatMap}
 use native.Mathlib.Omega.{arith}
 use lib.ListN.{length, getD, set, length-set}
 use Rattle.layout.specs.declared.turn.Run.the-variants.{Ended}
+use Rattle.layout.specs.declared.lock.Override.{Override}
 use Rattle.layout.specs.declared.record.Record.{Record}
 use Rattle.layout.specs.Records.{bytesOf, channelOf, editionOf, fileBytes}
 use Rattle.layout.specs.Answers.{granted}
@@ -87,9 +88,27 @@ module _ (s : List ℕ) (n g channel : ℕ) (b : Bytes s) (h : Accepted s n) (l 
   groups-after : groupsOf (replaced s (groupPlace s g + inner) (fileBytes new)) n ≡ set (groupsOf s n) g put
   groups-after = ap₂ groupsOf bytes-after (sym count) ∙ groups-back (set (groupsOf s n) g put) groups-allowed
 
-pub edit-back : (s after : List ℕ) (g channel : ℕ) (new : Record) → Bytes s → Whole new → edited s g channel new ≡ granted after → EditRead s after g channel new
-edit-back s after g channel new b w e =
-    let q = edit-granted s after g channel new e in
+ended-once : (a b : ℕ) → Ended a ≡ Ended b → a ≡ b
+ended-once a b e = cc
+
+-- the groups of the body after, of which there are as many: those before, with the record of the source channel replaced
+pub record EditGroups (s after : List ℕ) (g channel : ℕ) (new : Record) (n : ℕ) : Type 0 where
+  pub groups : groupsOf after n ≡ set (groupsOf s n) g (withRecord (groupNo s g) (rowIn s (standing s g) channel) new)
+
+pub edit-groups : (s after : List ℕ) (g channel : ℕ) (new : Record) (over : Override) → Bytes s → Whole new → edited s g channel new over ≡ granted after → (n : ℕ) → bodyRun s ≡ Ended n → EditGroups s after g channel new n
+edit-groups s after g channel new over b w e n run =
+    let q = edit-granted s after g channel new over e in
+    let same : q .n ≡ n = ended-once (q .n) n (sym (q .accepted) ∙ run) in
+    let h = body-accepted s n run in
+    let l : g < n = rw same at (q .there) in
+    let p = edit-placed s n g b h l channel (q .its) in
+    let r = edit-ranged new (q .ranged) in
+    let is = q .is ∙ ap (λ x. replaced s x (fileBytes new)) (inner-is s n g channel b h l p new w (q .own) (q .like) r) in
+    record { groups = ap (λ x. groupsOf x n) is ∙ groups-after s n g channel b h l p new w (q .own) (q .like) r }
+
+pub edit-back : (s after : List ℕ) (g channel : ℕ) (new : Record) (over : Override) → Bytes s → Whole new → edited s g channel new over ≡ granted after → EditRead s after g channel new
+edit-back s after g channel new over b w e =
+    let q = edit-granted s after g channel new over e in
     let h = body-accepted s (q .n) (q .accepted) in
     let p = edit-placed s (q .n) g b h (q .there) channel (q .its) in
     let r = edit-ranged new (q .ranged) in

@@ -1,13 +1,15 @@
 -- A field set at the call, by value and in place: where it accepts, that byte alone is new; where it refuses, the record is as it was.
 use Prim.Native.Nat.{ℕ}
-use mathlib.Core.Path.{_≡_, sym, ap, _∙_}
-use lib.Dec.{leb}
+use mathlib.Core.Path.{_≡_, refl, sym, ap, _∙_}
+use mathlib.Core.Bool.{Bool, true, false, not, _&&_, true≢false}
+use lib.Dec.{leb, eqb}
 use lib.ListN.{set}
-use borrow.Author.Tests.{leb-false}
+use borrow.Author.Tests.{eq-eqb, eqb-true, leb-false}
 use Rattle.layout.specs.declared.record.Record.{Record}
 use Rattle.layout.specs.declared.answer.Answered.{Answered}
 use Rattle.layout.specs.declared.answer.Changed.{Changed}
 use Rattle.layout.specs.Editions.{held}
+use Rattle.layout.specs.Lock.{locks}
 use Rattle.layout.specs.Records.{bytesOf, editionOf, secondIn, positionIn}
 use Rattle.layout.specs.Answers.{Answer, refused, granted, numberOf, valueOr, answered}
 use Rattle.layout.specs.Screen.{fieldSet, changed}
@@ -18,18 +20,24 @@ use Rattle.law_rounds.proofs.RecordBack.{read-whole, set-is, set-alone}
 use Rattle.law_rounds.proofs.Numbered.{accepts-granted, field-numbered}
 
 field-changed : (r after : Record) (index value : ℕ) → fieldSet r index value ≡ granted after → FieldChanged r index value after
-unfolding fieldSet
+unfolding fieldSet locks
 field-changed r after index value e =
     let a = if-granted (leb (held (editionOf r)) index) 16 0 _ after e in
+    let v = if-granted (not (eqb index 10) && locks (r .locked)) 22 10 _ after (a .1) in
     let alone = set-alone r after index value e in
     record {
       within = leb-false (held (editionOf r)) index (a .0);
+      free = lock-alone (eqb index 10) refl (v .0);
       bytes = alone .bytes;
       edition = alone .edition;
       second = alone .second;
       position = alone .position;
       whole = rw (← (set-is r after index value e)) (read-whole (set (bytesOf r) index value) (secondIn r) (positionIn r) (editionOf r));
     }
+  where
+    lock-alone : (b : Bool) → eqb index 10 ≡ b → not b && locks (r .locked) ≡ false → r .locked ≡ 1 → index ≡ 10
+    lock-alone true t f h = eqb-true index 10 t
+    lock-alone false t f h = absurd (true≢false (sym (eq-eqb (r .locked) 1 h) ∙ f))
 
 -- what is held after an answer: what was granted, or on refusal what was there
 held-after : {A : Type 0} (old now : A) (a : Answer A) (n : ℕ) → n ≡ numberOf a → now ≡ valueOr old a → (n ≡ 0 → ⊥) → now ≡ old

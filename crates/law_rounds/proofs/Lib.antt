@@ -37,3 +37,4 @@ pub mod AnyPosition
 pub mod Renumbered
 pub mod Rearranged
 pub mod OneEdition
+pub mod LockedStays

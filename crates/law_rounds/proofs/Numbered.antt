@@ -1,7 +1,7 @@
 -- A refusal's number is above 0 in every answer of demand 2, so a call whose number is 0 was granted what it asked for.
 use Prim.Native.Nat.{ℕ, _+_, _*_, _<_}
 use mathlib.Core.Path.{_≡_, refl}
-use mathlib.Core.Bool.{Bool, true, false, cond, not}
+use mathlib.Core.Bool.{Bool, true, false, cond, not, _&&_}
 use mathlib.Core.List.{List}
 use native.Mathlib.Omega.{arith}
 use lib.Dec.{ltb, leb, eqb}
@@ -15,7 +15,9 @@ use Rattle.layout.specs.declared.turn.Run.the-variants.{Stopped, Ended}
 use Rattle.layout.specs.declared.turn.Judged.{Judged}
 use Rattle.layout.specs.declared.turn.Judged.the-variants.{Unsound, Sound}
 use Rattle.layout.specs.Editions.{size, held, alike}
+use Rattle.layout.specs.Lock.{locks, keeps}
 use Rattle.layout.specs.Ranges.{outOf, ruleAt}
+use Rattle.layout.specs.declared.lock.Override.{Override}
 use Rattle.layout.specs.declared.record.Record.{Record}
 use Rattle.layout.specs.Records.{bytesOf, recordOf, blank, channelOf, editionOf, secondIn, positionIn, firstBad, fileBytes}
 use Rattle.layout.specs.Sdec.{soundText}
@@ -94,20 +96,21 @@ records-numbered s g room =
     (λ n. if-numbered (leb n g) 16 0 _ (omega arith)
     (if-numbered (ltb room (length (groupNo s g .records))) 14 0 _ (omega arith) (granted-numbered (groupNo s g .records))))
 
-pub edited-numbered : (s : List ℕ) (g channel : ℕ) (new : Record) → Numbered (edited s g channel new)
+pub edited-numbered : (s : List ℕ) (g channel : ℕ) (new : Record) (over : Override) → Numbered (edited s g channel new over)
 unfolding edited ofGroup ofChannel
-edited-numbered s g channel new =
+edited-numbered s g channel new over =
     let x : Standing = standing s g in
     let row : ℕ = rowIn s x channel in
     run-numbered (bodyRun s) _ (body-numbered s)
     (λ n. if-numbered (leb n g) 16 0 _ (omega arith) (if-numbered (leb (x .records) row) 15 0 _ (omega arith) (if-numbered (not (eqb (channelOf new) channel)) 16 0 _ (omega arith)
-    (if-numbered (not (alike (x .edition) (editionOf new))) 21 0 _ (omega arith) (if-numbered (ltb (firstEdited new) (held (editionOf new))) 9 (firstEdited new) _ (omega arith) (granted-numbered (replaced s (ctabPlace (x .edition) (x .ctabs) row + 8) (fileBytes new))))))))
+    (if-numbered (not (alike (x .edition) (editionOf new))) 21 0 _ (omega arith) (if-numbered (keeps over (getD s (ctabPlace (x .edition) (x .ctabs) row + 8 + 10) 0)) 22 10 _ (omega arith)
+    (if-numbered (ltb (firstEdited new) (held (editionOf new))) 9 (firstEdited new) _ (omega arith) (granted-numbered (replaced s (ctabPlace (x .edition) (x .ctabs) row + 8) (fileBytes new)))))))))
 
 pub field-numbered : (r : Record) (index value : ℕ) → Numbered (fieldSet r index value)
 unfolding fieldSet
 field-numbered r index value =
-    if-numbered (leb (held (editionOf r)) index) 16 0 _ (omega arith) (if-numbered (outOf (editionOf r) index (ruleAt (bytesOf r) 0 index) value) 9 index _ (omega arith)
-    (granted-numbered (recordOf (editionOf r) (set (bytesOf r) index value) (secondIn r) (positionIn r))))
+    if-numbered (leb (held (editionOf r)) index) 16 0 _ (omega arith) (if-numbered (not (eqb index 10) && locks (r .locked)) 22 10 _ (omega arith) (if-numbered (outOf (editionOf r) index (ruleAt (bytesOf r) 0 index) value) 9 index _ (omega arith)
+    (granted-numbered (recordOf (editionOf r) (set (bytesOf r) index value) (secondIn r) (positionIn r)))))
 
 -- ---- writing
 

@@ -3,7 +3,8 @@ use Prim.Native.Nat.{ℕ}
 use mathlib.Core.Path.{_≡_, refl, sym, ap, _∙_}
 use mathlib.Core.List.{List, _++_}
 use native.Mathlib.Omega.{arith}
-use lib.Dec.{leb}
+use mathlib.Core.Bool.{not, _&&_}
+use lib.Dec.{leb, eqb}
 use lib.ListN.{length, set, length-set}
 use lib.Seq.{take-all}
 use Rattle.layout.specs.declared.edition.Edition.{Edition}
@@ -14,6 +15,7 @@ use Rattle.layout.specs.declared.record.Record.{Record}
 use Rattle.layout.specs.declared.record.SecondTable.{SecondTable}
 use Rattle.layout.specs.declared.record.SecondTable.the-variants.{Absent}
 use Rattle.layout.specs.Editions.{held}
+use Rattle.layout.specs.Lock.{locks}
 use Rattle.layout.specs.Ranges.{outOf, ruleAt}
 use Rattle.layout.specs.Records.{setBytes, tailBytes, tripleBytes, formBytes, headBytes, bytesOf, setAt, tailAt, formOf, recordWith, recordOf, formEdition, formSecond, formPosition, editionOf, secondIn, positionIn}
 use Rattle.layout.specs.Answers.{granted}
@@ -97,7 +99,8 @@ pub set-is : (r after : Record) (index value : ℕ) → fieldSet r index value �
 unfolding fieldSet
 set-is r after index value e =
     let a = if-granted (leb (held (editionOf r)) index) 16 0 _ after e in
-    let b = if-granted (outOf (editionOf r) index (ruleAt (bytesOf r) 0 index) value) 9 index (granted (withByte r index value)) after (a .1) in
+    let v = if-granted (not (eqb index 10) && locks (r .locked)) 22 10 _ after (a .1) in
+    let b = if-granted (outOf (editionOf r) index (ruleAt (bytesOf r) 0 index) value) 9 index (granted (withByte r index value)) after (v .1) in
     granted-once (withByte r index value) after (b .1)
 
 pub set-alone : (r after : Record) (index value : ℕ) → fieldSet r index value ≡ granted after → SetAlone r after index value

@@ -5,6 +5,7 @@ use mathlib.Core.Logic.{_↔_}
 use mathlib.Core.List.{List, flatMap}
 use lib.ListN.{length, take, set}
 use Rattle.layout.specs.declared.edition.Edition.{Edition}
+use Rattle.layout.specs.declared.lock.Override.{Override}
 use Rattle.layout.specs.declared.record.Record.{Record}
 use Rattle.layout.specs.declared.record.SecondTable.{SecondTable}
 use Rattle.layout.specs.declared.turn.Run.the-variants.{Ended}
@@ -66,7 +67,7 @@ pub accepted-exactly : (s : List ℕ) (n : ℕ) → Bytes s → (bodyRun s ≡ E
 accepted-exactly s n b = (accepted-is-written s n b, written-is-accepted s n)
 
 -- a body after an edit is read as the body before it but for that one record, whose Cntt is kept, with its position
-pub edit-read : (s after : List ℕ) (g channel : ℕ) (new : Record) → Bytes s → Whole new → edited s g channel new ≡ granted after → EditRead s after g channel new
+pub edit-read : (s after : List ℕ) (g channel : ℕ) (new : Record) (over : Override) → Bytes s → Whole new → edited s g channel new over ≡ granted after → EditRead s after g channel new
 edit-read = edit-back
 
 -- a field byte that is set on the screen changes that byte of the record, and nothing else of it

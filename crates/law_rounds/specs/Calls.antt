@@ -6,6 +6,7 @@ use lib.ListN.{length, getD, take, drop, set}
 use Rattle.layout.specs.declared.record.Record.{Record}
 use Rattle.layout.specs.declared.answer.Counted.{Counted}
 use Rattle.layout.specs.declared.answer.Measured.{Measured}
+use Rattle.layout.specs.Lock.{lockByte}
 use Rattle.layout.specs.Editions.{size, held}
 use Rattle.layout.specs.Records.{bytesOf, blank, editionOf, secondIn, positionIn, fileBytes}
 use Rattle.layout.specs.Answers.{granted}
@@ -74,6 +75,8 @@ pub record CtabChanged (before : List ℕ) (group channel : ℕ) (new : Record) 
 -- "byte index 0-25 and a value, all other fields kept"; of a Ctb2 "the screen's index runs 0-46" (document 02, §4)
 pub record FieldChanged (before : Record) (index value : ℕ) (after : Record) : Type 0 where
   pub within : index < held (editionOf before)
+  -- of a locked record "setting byte index 10 itself" alone (§6)
+  pub free : before .locked ≡ 1 → index ≡ lockByte
   pub bytes : bytesOf after ≡ set (bytesOf before) index value
   pub edition : editionOf after ≡ editionOf before
   pub second : secondIn after ≡ secondIn before

@@ -4,6 +4,7 @@ use mathlib.Core.Path.{_≡_, sym, ap, _∙_}
 use mathlib.Core.List.{List, _++_}
 use lib.ListN.{drop}
 use Rattle.layout.specs.declared.edition.Edition.{Edition}
+use Rattle.layout.specs.declared.lock.Override.{Override}
 use Rattle.layout.specs.declared.record.Record.{Record}
 use Rattle.layout.specs.declared.record.SecondTable.{SecondTable}
 use Rattle.layout.specs.Promises.{CasmFound, SectionShown, BodyRead, GroupFound, PartFound, ChannelFound, TextShown, RecordsRead, VoiceShown, VoiceFound}
@@ -70,8 +71,8 @@ records-read body group before x y u v p q = (p .answer ∙ sym (q .answer), p .
 pub group-written : (text : List ℕ) (table : List Record) (count : ℕ) (before : List ℕ) → DeterminesBoth (GroupWritten text table count before)
 group-written text table count before x y u v p q = (p .answer ∙ sym (q .answer), p .buffer ∙ sym (q .buffer))
 
-pub record-edited : (before : List ℕ) (group channel : ℕ) (new : Record) → DeterminesBoth (RecordEdited before group channel new)
-record-edited before group channel new x y u v p q = (p .answer ∙ sym (q .answer), p .body ∙ sym (q .body))
+pub record-edited : (before : List ℕ) (group channel : ℕ) (new : Record) (over : Override) → DeterminesBoth (RecordEdited before group channel new over)
+record-edited before group channel new over x y u v p q = (p .answer ∙ sym (q .answer), p .body ∙ sym (q .body))
 
 pub field-set-in-place : (before : Record) (index value : ℕ) → DeterminesBoth (FieldSetInPlace before index value)
 field-set-in-place before index value x y u v p q = (p .answer ∙ sym (q .answer), p .held ∙ sym (q .held))

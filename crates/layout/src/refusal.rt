@@ -36,3 +36,5 @@ pub const ROOT_FIXED: u8 = 17;
 pub const BAD_POSITIONS: u8 = 18;
 
 pub const OTHER_EDITION: u8 = 21;
+
+pub const READ_ONLY: u8 = 22;

@@ -1,17 +1,22 @@
-// Editing (document 01, "Writing and editing"; document 02, §4): the record of a group and source channel replaced inside a lent body.
+// Editing (document 01, "Writing and editing"; document 02, §4 and §6): the record of a group and source channel replaced inside a lent body.
 ghost use mathlib.Core.Path.{_≡_};
 ghost use Prim.Native.Nat.{_+_, _≤_};
 ghost use lib.ListN.{length};
 ghost use Rattle.layout.specs.Editions.{size};
+ghost use Rattle.layout.specs.Lock.{keeps};
 ghost use Rattle.layout.specs.Promises.{RecordEdited};
 ghost use Rattle.write_edit.specs.EditAt.{EditedAt, told};
 use layout::answer::Answered;
 use layout::edition::Edition;
+use layout::lock::LOCK;
+use layout::lock::LOCKED;
+use layout::lock::Override;
 use layout::record::Record;
 use layout::record::SourceChannel;
 use layout::refusal::BAD_NUMBER;
 use layout::refusal::OTHER_EDITION;
 use layout::refusal::OUT_OF_RANGE;
+use layout::refusal::READ_ONLY;
 use read_find::row::Sought;
 use read_find::row::find_record;
 use read_ranges::first_out_held;
@@ -30,16 +35,27 @@ fn answer(number: u8, place: usize) -> Answered
     }
 }
 
-// The record of an edition whose byte 0 stands at `at`: its source channel and its edition stay, and the bytes of the new one are in their ranges. Its Cntt is not looked at.
+// Whether a record with this byte 10 stays as it is: it is locked, and the caller does not ask to override.
+fn is_kept(over: Override, lock: u8) -> bool
+    ensures { λ b. ⌜ b ≡ keeps over lock ⌝ }
+{
+    match over {
+        Override::NotAsked => lock == LOCKED,
+        Override::Asked => false,
+    }
+}
+
+// The record of an edition whose byte 0 stands at `at`: its source channel and its edition stay, it is not locked as it stands, or its lock is overridden, and the bytes of the new one are in their ranges. Its Cntt is not looked at.
 fn edit_at(
     s: &mut [u8],
     edition: Edition,
     at: usize,
     channel: SourceChannel,
     new: Record,
+    over: Override,
 ) -> Answered
     requires { ⌜ at + size edition ≤ length (now s) ⌝ }
-    ensures { λ r. ⌜ EditedAt (now (s .entry)) edition at (channel .0) new r (now (s .exit)) ⌝ }
+    ensures { λ r. ⌜ EditedAt (now (s .entry)) edition at (channel .0) new over r (now (s .exit)) ⌝ }
 {
     let source = new.source;
     if source.0 != channel.0 {
@@ -48,6 +64,10 @@ fn edit_at(
     let own = edition_of(new);
     if !is_alike(edition, own) {
         return answer(OTHER_EDITION, 0);
+    }
+    let lock = s[at + LOCK];
+    if is_kept(over, lock) {
+        return answer(READ_ONLY, LOCK);
     }
     let n = held_of(edition);
     let b = bytes_of(new);
@@ -60,11 +80,17 @@ fn edit_at(
 }
 
 // Replaces the record of a group and source channel; only that Ctab's bytes change, and nothing on refusal.
-pub fn edit_record(s: &mut [u8], group: usize, channel: SourceChannel, new: Record) -> Answered
-    ensures { λ r. ⌜ RecordEdited (now (s .entry)) group (channel .0) new r (now (s .exit)) ⌝ }
+pub fn edit_record(
+    s: &mut [u8],
+    group: usize,
+    channel: SourceChannel,
+    new: Record,
+    over: Override,
+) -> Answered
+    ensures { λ r. ⌜ RecordEdited (now (s .entry)) group (channel .0) new over r (now (s .exit)) ⌝ }
 {
     match find_record(s, group, channel) {
         Sought::Refused(number, place) => answer(number, place),
-        Sought::At(edition, _, at) => edit_at(s, edition, at, channel, new),
+        Sought::At(edition, _, at) => edit_at(s, edition, at, channel, new, over),
     }
 }

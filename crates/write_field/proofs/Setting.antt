@@ -1,9 +1,10 @@
 -- One field byte set: one law for each way out. The bytes are set in an array of 47; those of the record are its front.
 use Prim.Native.Nat.{ℕ, zero, suc, _+_, _≤_, _<_}
 use mathlib.Core.Path.{_≡_, refl, sym, ap, _∙_}
-use mathlib.Core.Bool.{true, false}
+use mathlib.Core.Bool.{true, false, not, _&&_}
 use mathlib.Core.List.{List, _++_}
 use native.Mathlib.Omega.{arith}
+use lib.Dec.{eqb}
 use lib.ListN.{length, set, take, length-set, length-take, List·getD-append}
 use lib.Seq.{set-append-left, take-at}
 use borrow.Author.Tests.{le-leb, lt-leb}
@@ -11,6 +12,7 @@ use Rattle.layout.specs.declared.edition.Edition.{Edition}
 use Rattle.layout.specs.declared.record.SecondTable.{SecondTable}
 use Rattle.layout.specs.declared.record.Record.{Record}
 use Rattle.layout.specs.Editions.{held}
+use Rattle.layout.specs.Lock.{locks}
 use Rattle.layout.specs.Ranges.{outOf, ruleAt}
 use Rattle.layout.specs.Records.{bytesOf, laidOut, recordOf, editionOf, secondIn, positionIn}
 use Rattle.layout.specs.Answers.{numberOf, placeOf, valueOr}
@@ -40,7 +42,11 @@ module _ (r : Record) (index value : ℕ) (e : Edition) (is : e ≡ editionOf r)
   unfolding fieldSet changed numberOf placeOf valueOr
   set-over h = sym (rw (← is, le-leb (held e) index h))
 
-  module _ (l : index < held e) (b : List ℕ) (bytes : b ≡ laidOut r) where
+  pub set-locked : index < held e → true ≡ not (eqb index 10) && locks (r .locked) → record { number = 22; place = 10; held = r } ≡ changed r (fieldSet r index value)
+  unfolding fieldSet changed numberOf placeOf valueOr
+  set-locked l k = sym (rw (← is, lt-leb (held e) index l, ← k))
+
+  module _ (l : index < held e) (free : false ≡ not (eqb index 10) && locks (r .locked)) (b : List ℕ) (bytes : b ≡ laidOut r) where
     many : length (bytesOf r) ≡ held e
     many = bytes-length r ∙ ap held (sym is)
 
@@ -58,7 +64,7 @@ module _ (r : Record) (index value : ℕ) (e : Edition) (is : e ≡ editionOf r)
 
     pub set-out : (rule : ℕ) → rule ≡ ruleAt b 0 index → true ≡ outOf e index rule value → record { number = 9; place = index; held = r } ≡ changed r (fieldSet r index value)
     unfolding fieldSet changed numberOf placeOf valueOr
-    set-out rule h t = sym (rw (← is, lt-leb (held e) index l, ← rule-is rule h, ← t))
+    set-out rule h t = sym (rw (← is, lt-leb (held e) index l, ← free, ← rule-is rule h, ← t))
 
     made-is : (second : SecondTable) → second ≡ secondIn r → (position : ℕ) → position ≡ positionIn r
         → recordOf e (take (held e) (set b index value)) second position ≡ recordOf e (set (bytesOf r) index value) (secondIn r) (positionIn r)
@@ -69,4 +75,4 @@ module _ (r : Record) (index value : ℕ) (e : Edition) (is : e ≡ editionOf r)
     unfolding fieldSet changed numberOf placeOf valueOr
     set-in rule h t second f position g n m made d =
         ap (λ (x : Record). record { number = 0; place = 0; held = x }) (d ∙ (ap (λ (k : ℕ). recordOf e (take k (set b index value)) second position) m ∙ made-is second f position g))
-        ∙ sym (rw (← is, lt-leb (held e) index l, ← rule-is rule h, ← t))
+        ∙ sym (rw (← is, lt-leb (held e) index l, ← free, ← rule-is rule h, ← t))

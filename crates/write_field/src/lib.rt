@@ -1,9 +1,16 @@
-// The editing screen (document 01, "Writing and editing"; document 02, §4): one field byte of a record set, all other fields kept.
+// The editing screen (document 01, "Writing and editing"; document 02, §4 and §6): one field byte of a record set, all other fields kept.
+ghost use mathlib.Core.Path.{_≡_};
+ghost use mathlib.Core.Bool.{not, _&&_};
+ghost use lib.Dec.{eqb};
+ghost use Rattle.layout.specs.Lock.{lockByte, locks};
 ghost use Rattle.layout.specs.Promises.{FieldSet};
 use layout::answer::Changed;
+use layout::lock::LOCK;
+use layout::lock::LOCKED;
 use layout::record::Record;
 use layout::refusal::BAD_NUMBER;
 use layout::refusal::OUT_OF_RANGE;
+use layout::refusal::READ_ONLY;
 use read_ranges::columns::rule_before;
 use read_ranges::is_out;
 use read_record::bytes::bytes_of;
@@ -13,7 +20,17 @@ use read_record::held::position_of;
 use read_record::held::second_of;
 use read_record::made::record_of;
 
-// The record with one byte set; the Cntt and its position are kept.
+// Whether a byte of a record with this byte 10 stays as it is: the lock itself can always be set.
+fn is_kept(index: usize, lock: u8) -> bool
+    ensures { λ b. ⌜ b ≡ not (eqb index lockByte) && locks lock ⌝ }
+{
+    if index == LOCK {
+        return false;
+    }
+    lock == LOCKED
+}
+
+// The record with one byte set; the Cntt and its position are kept. Of a locked record the lock alone is set.
 pub fn set_field(r: Record, index: usize, value: u8) -> Changed
     ensures { λ c. ⌜ FieldSet r index value c ⌝ }
 {
@@ -23,6 +40,13 @@ pub fn set_field(r: Record, index: usize, value: u8) -> Changed
         return Changed {
             number: BAD_NUMBER,
             place: 0,
+            held: r,
+        };
+    }
+    if is_kept(index, r.locked) {
+        return Changed {
+            number: READ_ONLY,
+            place: LOCK,
             held: r,
         };
     }

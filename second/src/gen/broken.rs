@@ -18,7 +18,7 @@ fn tokens(verb: &str) -> Vec<String> {
         "plays" => vec![group, "41", "0", "0"],
         "place" => vec![&record, "0", "60"],
         "write" => vec!["41", "1", "60", &record],
-        "edit" => vec![group, "0", "3", &record],
+        "edit" => vec![group, "0", "3", &record, "0"],
         "screen" => vec![&record, "0", "3"],
         _ => vec![group, "9"],
     };
@@ -82,6 +82,24 @@ const GREAT: [&str; 8] = [
     "000255",
 ];
 
+/// OVERRIDEs that break the grammar, and the last few that do not.
+pub const OVERRIDES: [&str; 14] = [
+    "2",
+    "3",
+    "10",
+    "02",
+    "255",
+    "4294967297",
+    "-1",
+    "x",
+    "-",
+    "0 0",
+    "1 1",
+    "00",
+    "01",
+    "0000001",
+];
+
 /// Changes of a whole line behind its verb.
 fn line_changes(sound: &str) -> Vec<String> {
     let (verb, rest) = sound.split_once(' ').unwrap_or((sound, ""));
@@ -119,6 +137,9 @@ pub fn broken(verb: &str) -> Vec<Line> {
         } else {
             NUMBERS.iter().for_each(|token| with(token.to_string()));
             GREAT.iter().for_each(|token| with(token.to_string()));
+        }
+        if verb == "edit" && number + 1 == sound.len() {
+            OVERRIDES.iter().for_each(|token| with(token.to_string()));
         }
     }
     if verb == "write" {

@@ -9,6 +9,7 @@ use crate::gen::ctb2_bodies::{self, other};
 use crate::gen::dice::Dice;
 use crate::gen::edits::edit_line;
 use crate::gen::faults::long_text;
+use crate::gen::locks::unlocked;
 use crate::gen::records::screen_line;
 use crate::gen::sound;
 use crate::gen::spell::{write_line, Line};
@@ -34,7 +35,8 @@ pub fn screen(dice: &mut Dice) -> Vec<Line> {
     let broken = Record::Second([0xEE; CTB2_BYTES]);
     for index in 0..CTB2_BYTES {
         for value in bounds_of(index) {
-            lines.push(screen_line(&record(dice, 3), index as u64, value));
+            let record = unlocked(record(dice, 3));
+            lines.push(screen_line(&record, index as u64, value));
         }
         lines.push(screen_line(&broken, index as u64, 0x08));
         lines.push(screen_line(&broken, index as u64, 0xEE));

@@ -10,6 +10,11 @@ impl Dice {
         Dice { state: seed }
     }
 
+    /// Other dice by these, which stay as they are: what is rolled aside moves no later line.
+    pub fn aside(&self) -> Dice {
+        Dice::new(!self.clone().roll())
+    }
+
     /// Any 64 bits.
     pub fn roll(&mut self) -> u64 {
         self.state = self.state.wrapping_add(0x9E37_79B9_7F4A_7C15);

@@ -1,5 +1,5 @@
 //! The catalogue of edit: sound edits, each refusal before the next, every byte at the bounds
-//! of its range, any position, records of both editions, and the catalogue of bodies.
+//! of its range, any position, records of both editions, locks, and the catalogue of bodies.
 
 use crate::body::read_body;
 use crate::edition::{Edition, FIELDS};
@@ -10,6 +10,8 @@ use crate::gen::ctb2;
 use crate::gen::ctb2_bodies::other;
 use crate::gen::ctb2_lines;
 use crate::gen::dice::Dice;
+use crate::gen::locks::{self, some_override};
+use crate::gen::mixed;
 use crate::gen::positions::{some_position, ANY_POSITION};
 use crate::gen::sound::{plain, record};
 use crate::gen::spell::{body_line, rec, Line};
@@ -20,9 +22,10 @@ pub fn edit(dice: &mut Dice, bodies: &Bodies) -> Vec<Line> {
     let sample = sample(dice);
     let mut lines = edit_orders(dice, &sample);
     for body in &great_bodies()[..4] {
-        lines.push(format!("edit {body} 0 0 {}", rec(&plain(0))).into());
+        lines.push(format!("edit {body} 0 0 {} 0", rec(&plain(0))).into());
     }
-    lines.extend(edit_bodies(dice, bodies));
+    let locks = locks::edit(&mut dice.aside());
+    lines.extend(mixed(edit_bodies(dice, bodies), locks));
     lines.extend(ctb2_lines::edit(dice));
     for (index, &(low, high)) in RANGES[..FIELDS].iter().enumerate() {
         let mut values = vec![low, high];
@@ -61,12 +64,20 @@ fn edit_bodies(dice: &mut Dice, bodies: &Bodies) -> Vec<Line> {
             Edition::Second => ctb2::record(dice, channel.unwrap_or(0)),
         };
         let new = at_position(new, some_position(dice));
-        format!("{place} {}", rec(&new))
+        let over = some_override(&mut dice.aside());
+        format!("{place} {} {over}", rec(&new))
     })
 }
 
+/// An edit that asks to override, so that a lock by chance hides nothing.
 pub fn edit_line(body: &[u8], group: u64, channel: u8, new: &Record) -> Line {
-    body_line("edit", body, &format!("{group} {channel} {}", rec(new)))
+    edit_line_with(body, group, channel, new, "1")
+}
+
+/// An edit with this OVERRIDE.
+pub fn edit_line_with(body: &[u8], group: u64, channel: u8, new: &Record, over: &str) -> Line {
+    let tokens = format!("{group} {channel} {} {over}", rec(new));
+    body_line("edit", body, &tokens)
 }
 
 /// Sound edits, and each refusal before the next: the body's, 16, 15, 16, 9.

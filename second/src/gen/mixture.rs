@@ -4,6 +4,7 @@
 use crate::body::read_body;
 use crate::bytes::CTB2;
 use crate::edition::Edition;
+use crate::gen::broken::OVERRIDES;
 use crate::gen::chords::{some_chord, some_part};
 use crate::gen::cntts::{at_position, with_cntt};
 use crate::gen::ctb2::{self, SETS, TABLE_BOUNDS};
@@ -12,14 +13,16 @@ use crate::gen::ctb2_faults;
 use crate::gen::dice::Dice;
 use crate::gen::draft::{body_bytes, Draft};
 use crate::gen::faults::{further, principal, Fault, GREAT_LENGTHS};
+use crate::gen::locks::{some_lock, some_override};
 use crate::gen::narrow;
 use crate::gen::positions::{number_somehow, some_position, spoil};
 use crate::gen::sound;
 use crate::gen::spell::{rec, spell, spell_oddly, Line};
+use crate::group::Group;
 use crate::ranges::{
     allowed, Allowed, GUITAR, HIGHEST_MIDDLE, HIGH_LIMIT, LOWEST_MIDDLE, LOW_LIMIT, ONLY_SET, RULE,
 };
-use crate::record::Record;
+use crate::record::{Record, READ_ONLY};
 use crate::style::{BODY_LIMIT, FILE_LIMIT};
 use crate::write::group_bytes;
 use std::collections::HashSet;
@@ -39,6 +42,13 @@ fn edition_of(groups: &[Draft]) -> Edition {
     } else {
         Edition::First
     }
+}
+
+/// What stands in a body for a group number and a source channel.
+fn record_of(groups: &[Group], number: u64, channel: u8) -> Option<Record> {
+    let mut records = groups.get(number as usize)?.records.iter();
+    let placed = records.find(|placed| placed.record.source_channel() == channel)?;
+    Some(placed.record)
 }
 
 impl Mixture {
@@ -493,12 +503,25 @@ impl Mixture {
             record[0] = channel;
         }
         let body_token = self.spelled(&body);
-        format!("edit {body_token} {number} {channel} {}", rec(&record))
+        let mut aside = self.dice.aside();
+        match (aside.below(20), record_of(&groups, number, channel)) {
+            (0 | 1, Some(old)) => record = old,
+            (2, _) => record[READ_ONLY] = some_lock(&mut aside),
+            (3, _) => record[aside.pick(&[9, 11, 18, 19])] = 0xFF,
+            _ => (),
+        }
+        let mut tokens = format!("{number} {channel} {}", rec(&record));
+        match aside.below(100) {
+            0 => (),
+            1 | 2 => tokens.push_str(&format!(" {}", aside.pick(&OVERRIDES))),
+            _ => tokens.push_str(&format!(" {}", some_override(&mut aside))),
+        }
+        format!("edit {body_token} {tokens}")
     }
 
     fn screen(&mut self) -> String {
         let edition = sound::some_edition(&mut self.dice);
-        let record = self.record(edition);
+        let mut record = self.record(edition);
         let index = self.dice.below(edition.fields());
         let value = self.some_value(edition, index);
         let odd = self
@@ -509,6 +532,14 @@ impl Mixture {
         } else {
             index as u64
         };
+        let mut aside = self.dice.aside();
+        if aside.percent(50) {
+            record[READ_ONLY] = some_lock(&mut aside);
+        }
+        if aside.percent(8) {
+            let value = some_lock(&mut aside);
+            return format!("screen {} {READ_ONLY} {value}", rec(&record));
+        }
         format!("screen {} {index} {value}", rec(&record))
     }
 

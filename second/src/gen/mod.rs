@@ -17,6 +17,7 @@ pub mod edits;
 pub mod families;
 pub mod faults;
 pub mod files;
+pub mod locks;
 pub mod lookups;
 pub mod mixture;
 pub mod narrow;
@@ -27,6 +28,7 @@ pub mod spell;
 pub mod styles;
 
 use crate::calls::{answer, VERBS};
+use crate::record::is_locked;
 use dice::Dice;
 use mixture::Mixture;
 use spell::{body_line, Line};
@@ -163,7 +165,8 @@ fn families(dice: &mut Dice) -> Vec<(&'static str, Vec<Line>)> {
     list
 }
 
-/// Questions that the unchanged family body accepts.
+/// Questions that the unchanged family body accepts; its edit asks to override a lock only, so
+/// that a change which locks the record is told.
 fn questions(body: &[u8]) -> Vec<(&'static str, String)> {
     let groups = crate::body::read_body(body).unwrap_or_default();
     let number = groups.iter().position(|group| !group.records.is_empty());
@@ -172,11 +175,12 @@ fn questions(body: &[u8]) -> Vec<(&'static str, String)> {
     let channel = record.source_channel();
     let part = spell::spell(groups[number].text);
     let new = spell::rec(&ctb2_bodies::plain(record.edition(), channel));
+    let over = u8::from(is_locked(record.bytes()));
     vec![
         ("group", format!("{number} 2")),
         ("voice", format!("{number} {channel}")),
         ("plays", format!("{part} 4 19")),
-        ("edit", format!("{number} {channel} {new}")),
+        ("edit", format!("{number} {channel} {new} {over}")),
         ("part", part),
         ("where", number.to_string()),
         ("channel", format!("{number} {channel}")),

@@ -5,6 +5,7 @@ use crate::gen::bodies::seg_text;
 use crate::gen::cntts::{self, at_position};
 use crate::gen::dice::Dice;
 use crate::gen::faults::{further_texts, long_text, principal_texts};
+use crate::gen::locks::{self, unlocked};
 use crate::gen::narrow;
 use crate::gen::positions::{self, number, number_somehow, some_position, Order, ANY_POSITION};
 use crate::gen::sound::{self, plain, record, records, CNTT_VALUES};
@@ -225,7 +226,7 @@ pub fn screen(dice: &mut Dice) -> Vec<Line> {
     for (index, &(low, _)) in RANGES[..FIELDS].iter().enumerate() {
         for value in bounds(index) {
             let position = some_position(dice);
-            let record = at_position(record(dice, 3), position);
+            let record = at_position(unlocked(record(dice, 3)), position);
             lines.push(line(&record, index as u64, value));
         }
         lines.push(line(&broken, index as u64, low));
@@ -234,6 +235,7 @@ pub fn screen(dice: &mut Dice) -> Vec<Line> {
     for value in CNTT_BOUNDS {
         lines.push(line(&with_cntt(&[], 0x84), 21, value));
     }
+    lines.extend(locks::screen(&mut dice.aside()));
     lines.extend(ctb2_lines::screen(dice));
     for position in ANY_POSITION {
         for (index, value) in [(0, 7), (21, 4), (21, 6), (25, 5), (26, 0)] {

@@ -14,13 +14,13 @@ edit-at-requires c κs =
 returns : tie.Need-returns
 returns c =
     let a = c .before .before in
-    edit-refused _ _ _ _ _ _ _ (c .answer .ensures) (sym (a .before .before .find-record .ensures) ∙ a .number .given .1)
+    edit-refused _ _ _ _ _ _ _ _ (c .answer .ensures) (sym (a .before .before .find-record .ensures) ∙ a .number .given .1)
 
 returns-2 : tie.Need-returns-2
 returns-2 c =
     let e = c .before .before in
     let a = e .before .before .before in
-    edit-there _ _ _ _ _ _ _ _ _ (sym (a .before .before .find-record .ensures) ∙ a .edition .given .1) (e .edit-at .ensures)
+    edit-there _ _ _ _ _ _ _ _ _ _ (sym (a .before .before .find-record .ensures) ∙ a .edition .given .1) (e .edit-at .ensures)
 
 pub edit-record-spec : {M : Type 1} → statement M
 edit-record-spec =
