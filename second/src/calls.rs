@@ -2,6 +2,7 @@
 //! library on lent memory that starts out as a sentinel.
 
 use crate::body::{read_body, read_group};
+use crate::check::{check, Checked, Which};
 use crate::edit::edit;
 use crate::edition::{Edition, FIELDS};
 use crate::list::LIST_ROOM;
@@ -26,6 +27,10 @@ pub const VERBS: [&str; 13] = [
     "find", "body", "group", "voice", "plays", "place", "write", "edit", "screen", "part", "where",
     "channel", "salvage",
 ];
+
+/// The verbs that a generated script has only where they are named, so that one of no named verb
+/// stays as it was before they came.
+pub const ONLY_NAMED: [&str; 1] = ["checked"];
 
 /// The most that a line may lend.
 pub const RECORD_ROOM: usize = 32;
@@ -105,6 +110,12 @@ fn run(tokens: &[&[u8]]) -> Option<String> {
         (b"channel", &[body, group, channel]) => {
             Some(run_channel(&bytes(body)?, number(group)?, byte(channel)?))
         }
+        (b"checked", &[before, after, group, channel]) => Some(run_checked(
+            &bytes(before)?,
+            &bytes(after)?,
+            number(group)?,
+            byte(channel)?,
+        )),
         (b"salvage", &[body, lent]) => Some(run_salvage(&bytes(body)?, room(lent, LIST_ROOM)?)),
         _ => None,
     }
@@ -248,6 +259,15 @@ fn run_channel(body: &[u8], group: u32, channel: u8) -> String {
     match find_channel(body, group, channel) {
         Ok((number, place)) => format!("ok {number} {place}"),
         Err(refusal) => refused(refusal),
+    }
+}
+
+fn run_checked(before: &[u8], after: &[u8], group: u32, channel: u8) -> String {
+    match check(before, after, group, channel) {
+        Ok(Checked::Yes) => "ok yes".to_string(),
+        Ok(Checked::No(place)) => format!("ok no {place}"),
+        Err((refusal, Which::Before)) => format!("{} before", refused(refusal)),
+        Err((refusal, Which::After)) => format!("{} after", refused(refusal)),
     }
 }
 

@@ -1,10 +1,11 @@
-//! The second program: document 01 once more, with requests §1, §3, §4 and §6 of document 02,
-//! written from the documents alone. Each module follows one of document 01's headings; `calls`
+//! The second program: document 01 once more, with requests §1, §3, §4, §6 and §13 of document
+//! 02, written from the documents alone. Each module follows one of document 01's headings; `calls`
 //! and `list` are its two programs.
 
 pub mod body;
 pub mod bytes;
 pub mod calls;
+pub mod check;
 pub mod edit;
 pub mod edition;
 pub mod gen;

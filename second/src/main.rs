@@ -1,7 +1,7 @@
 //! The binary `second`: `calls` answers a script, `list` lists a style file, `gen` prints a
 //! script, `styles` writes style files to try `list` on. Only arguments are handled here.
 
-use second::calls::{calls, VERBS};
+use second::calls::{calls, ONLY_NAMED, VERBS};
 use second::gen::generate;
 use second::gen::styles::style_files;
 use second::list::{list, LIST_LIMIT};
@@ -17,7 +17,7 @@ fn main() -> ExitCode {
     let done = match words.as_slice() {
         ["calls"] => calls(io::stdin().lock(), BufWriter::new(io::stdout().lock())),
         ["list"] => run_list(),
-        ["gen", seed, count, verbs @ ..] if verbs.iter().all(|verb| VERBS.contains(verb)) => {
+        ["gen", seed, count, verbs @ ..] if verbs.iter().all(is_verb) => {
             match (seed.parse(), count.parse()) {
                 (Ok(seed), Ok(count)) => run_gen(seed, count, verbs),
                 _ => return usage(),
@@ -37,6 +37,10 @@ fn main() -> ExitCode {
             ExitCode::FAILURE
         }
     }
+}
+
+fn is_verb(word: &&str) -> bool {
+    VERBS.contains(word) || ONLY_NAMED.contains(word)
 }
 
 fn usage() -> ExitCode {

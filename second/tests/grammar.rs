@@ -178,7 +178,7 @@ fn forms_of_positions() {
 }
 
 /// Lines that break the grammar, whatever their verb.
-const BAD_LINES: [&str; 52] = [
+const BAD_LINES: [&str; 66] = [
     "",
     " ",
     "body",
@@ -227,6 +227,20 @@ const BAD_LINES: [&str; 52] = [
     "channel - 4294967296 0",
     "channel - 0 0 0",
     "Channel - 0 0",
+    "checked - - 0",
+    "checked - 0 0",
+    "checked - - 0 256",
+    "checked - - 4294967296 0",
+    "checked - - 0 0 0",
+    "checked - - 0 0 ",
+    "checked -  - 0 0",
+    "checked - 0 0 0",
+    "checked 0 - 0 0",
+    "checked - 00*1048578 0 0",
+    "checked 00*1048578 - 0 0",
+    "checked 00*1048577 00*1048578 0 0",
+    "check - - 0 0",
+    "Checked - - 0 0",
     "list -",
     "body 00\r",
     "#",
@@ -294,6 +308,9 @@ fn lines_at_the_edge_of_the_grammar() {
     for over in ["0", "1", "00", "01", "0000000000000000000000000001"] {
         is(&format!("edit - 0 0 {rec} {over}"), "refused 16 0 -");
     }
+    is("checked - - 4294967295 255", "refused 16 0 before");
+    is("checked 00*1048577 00*1048577 0 0", "refused 3 0 before");
+    is("checked - 00*1048577 0 0", "refused 3 0 after");
     is("body 00*1048577", "refused 3 0");
     is("body 00*1048578", "bad");
 }
@@ -307,6 +324,12 @@ fn long_lines() {
     };
     assert_eq!(line(2_200_000), "ok 0");
     assert_eq!(line(2_200_001), "bad");
+    let two = |zeros: usize| {
+        let part = format!("00*{}", "0".repeat(zeros));
+        answer(format!("checked {part} {part} 0 0").as_bytes())
+    };
+    assert_eq!(two(1_099_990), "refused 16 0 before");
+    assert_eq!(two(1_099_991), "bad");
 }
 
 #[test]
@@ -389,6 +412,10 @@ fn one_answer_of_each_verb() {
     is(&format!("where {hex} 1"), "refused 16 0");
     is(&format!("channel {hex} 0 3"), "ok 0 30");
     is(&format!("channel {hex} 0 255"), "refused 15 0");
+    is(&format!("checked {hex} {hex} 0 3"), "ok yes");
+    is(&format!("checked {hex} - 0 3"), "ok no 0");
+    is(&format!("checked {hex} {hex} 0 2"), "refused 15 0 before");
+    is(&format!("checked {hex} {hex}00 0 3"), "refused 2 57 after");
     is(&format!("salvage {hex}00 2"), "ok 2 0,57,0 57,1,6 kept");
     is(&format!("salvage {hex}00 1"), "refused 14 0 kept");
 }

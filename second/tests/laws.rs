@@ -7,6 +7,7 @@ use common::chunks::{edition, groups, names, of_tag, records};
 use common::{entries_of, plain_record};
 use second::body::{read_body, read_group};
 use second::calls::answer;
+use second::check::{check, Checked};
 use second::edit::edit;
 use second::edition::Edition;
 use second::gen::cntts::{at_position, position};
@@ -424,6 +425,94 @@ fn an_edit_changes_one_record_only() {
         assert_eq!(back, before);
     }
     assert!(seen > 500, "{seen}");
+}
+
+/// "Whatever our own edit writes must be answered yes, an unchanged body too" (document 02, §13):
+/// for the record edited, and for another one only where nothing changed.
+#[test]
+fn an_edit_is_checked_yes() {
+    let mut seen = [0; 3];
+    for (parts, words) in answered("edit", 48, 6_000) {
+        if words[0] != "ok" {
+            continue;
+        }
+        let before = bytes(&parts[1]).unwrap();
+        let after = bytes(words[1].as_bytes()).unwrap();
+        let group = number(&parts[2]).unwrap();
+        let channel = number(&parts[3]).unwrap() as u8;
+        assert_eq!(check(&before, &after, group, channel), Ok(Checked::Yes));
+        assert_eq!(check(&after, &before, group, channel), Ok(Checked::Yes));
+        assert_eq!(check(&before, &before, group, channel), Ok(Checked::Yes));
+        seen[0] += 1;
+        let (_, place) = find_channel(&before, group, channel).unwrap();
+        for (other, found) in (0..).zip(&read_body(&before).unwrap()) {
+            for stands in found.records.iter().filter(|stands| stands.place != place) {
+                let told = check(&before, &after, other, stands.record[0]);
+                assert_eq!(told == Ok(Checked::Yes), before == after);
+                seen[1 + usize::from(before == after)] += 1;
+            }
+        }
+    }
+    assert!(seen.iter().all(|&count| count > 100), "{seen:?}");
+}
+
+/// The bytes of the record asked for, by its chunk alone.
+fn record_bytes(body: &[u8], group: u32, channel: u8) -> Option<std::ops::Range<usize>> {
+    let all = groups(body);
+    let (_, children) = all.get(group as usize)?;
+    let found = records(children);
+    let chunk = found.iter().find(|chunk| chunk.payload[0] == channel)?;
+    Some(chunk.place + 8..chunk.end())
+}
+
+/// Yes exactly when the bytes before the record and those behind it are the same in both bodies;
+/// the refusals in their order (document 02, §13).
+#[test]
+fn a_check_by_what_stands_around_the_record() {
+    let mut seen = [0; 4];
+    for (parts, words) in answered("checked", 49, 12_000) {
+        let [before, after] = [1, 2].map(|part| bytes(&parts[part]).unwrap());
+        let group = number(&parts[3]).unwrap();
+        let channel = number(&parts[4]).unwrap() as u8;
+        let told = words.join(" ");
+        let refused = [(&before, "before"), (&after, "after")]
+            .into_iter()
+            .find_map(|(body, which)| Some((read_body(body).err()?, which)));
+        if let Some((refusal, which)) = refused {
+            let expected = format!("refused {} {} {which}", refusal.number, refusal.place);
+            assert_eq!(told, expected);
+            seen[0] += 1;
+            continue;
+        }
+        let Some(record) = record_bytes(&before, group, channel) else {
+            let there = (group as usize) < groups(&before).len();
+            let number = if there { 15 } else { 16 };
+            assert_eq!(told, format!("refused {number} 0 before"));
+            seen[1] += 1;
+            continue;
+        };
+        let around = |body: &[u8]| {
+            let start = body.get(..record.start).map(<[u8]>::to_vec);
+            (start, body.get(record.end..).map(<[u8]>::to_vec))
+        };
+        if around(&before) == around(&after) {
+            assert_eq!(told, "ok yes");
+            assert_eq!(before.len(), after.len());
+            seen[2] += 1;
+            continue;
+        }
+        let place: usize = words[2].parse().unwrap();
+        assert_eq!(told, format!("ok no {place}"));
+        assert!(!record.contains(&place));
+        assert_ne!(before.get(place), after.get(place));
+        let until = place.min(record.start);
+        assert_eq!(before[..until], after[..until]);
+        if place > record.end {
+            assert_eq!(before[record.end..place], after[record.end..place]);
+        }
+        seen[3] += 1;
+    }
+    assert!(seen.iter().all(|&count| count > 1_000), "{seen:?}");
 }
 
 /// Without override an edit is refused with 22 exactly where it would be accepted or refused with 9

@@ -16,6 +16,7 @@ fn tokens(verb: &str) -> Vec<String> {
         "part" => vec![group, "41"],
         "where" => vec![group, "0"],
         "plays" => vec![group, "41", "0", "0"],
+        "checked" => vec![group, group, "0", "4"],
         "place" => vec![&record, "0", "60"],
         "write" => vec!["41", "1", "60", &record],
         "edit" => vec![group, "0", "3", &record, "0"],
@@ -132,7 +133,7 @@ pub fn broken(verb: &str) -> Vec<Line> {
         };
         if word.contains(':') {
             records(word).into_iter().for_each(&mut with);
-        } else if number == 0 || (matches!(verb, "plays" | "part") && number == 1) {
+        } else if number == 0 || (matches!(verb, "plays" | "part" | "checked") && number == 1) {
             BYTES.iter().for_each(|token| with(token.to_string()));
         } else {
             NUMBERS.iter().for_each(|token| with(token.to_string()));

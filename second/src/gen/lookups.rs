@@ -67,7 +67,7 @@ fn shaped_ctb2s(dice: &mut Dice) -> [Vec<u8>; 6] {
 }
 
 /// Every group number and source channel of a sound body.
-fn every_record(body: &[u8]) -> Vec<(u64, u8)> {
+pub fn every_record(body: &[u8]) -> Vec<(u64, u8)> {
     let groups = read_body(body).unwrap_or_default();
     let numbered = (0..).zip(&groups);
     numbered

@@ -5,6 +5,7 @@ use crate::body::read_body;
 use crate::bytes::CTB2;
 use crate::edition::Edition;
 use crate::gen::broken::OVERRIDES;
+use crate::gen::checks::{somehow_after, Ask};
 use crate::gen::chords::{some_chord, some_part};
 use crate::gen::cntts::{at_position, with_cntt};
 use crate::gen::ctb2::{self, SETS, TABLE_BOUNDS};
@@ -14,6 +15,7 @@ use crate::gen::dice::Dice;
 use crate::gen::draft::{body_bytes, Draft};
 use crate::gen::faults::{further, principal, Fault, GREAT_LENGTHS};
 use crate::gen::locks::{some_lock, some_override};
+use crate::gen::lookups::every_record;
 use crate::gen::narrow;
 use crate::gen::positions::{number_somehow, some_position, spoil};
 use crate::gen::sound;
@@ -81,6 +83,7 @@ impl Mixture {
             "part" => self.part(),
             "where" => self.place_of_group(),
             "channel" => self.channel(),
+            "checked" => self.checked(),
             _ => self.salvage(),
         }
         .into_bytes();
@@ -541,6 +544,32 @@ impl Mixture {
             return format!("screen {} {READ_ONLY} {value}", rec(&record));
         }
         format!("screen {} {index} {value}", rec(&record))
+    }
+
+    /// Two bodies of which one mostly came of the other, at times the wrong way round.
+    fn checked(&mut self) -> String {
+        let mut before = self.asked_body();
+        let (mut number, channels) = self.some_group(&before);
+        let mut channel = self.some_channel(&channels);
+        let records = every_record(&before);
+        if !records.is_empty() && self.dice.percent(70) {
+            (number, channel) = self.dice.pick(&records);
+        }
+        let mut after = match self.dice.below(100) {
+            0..=5 => self.asked_body(),
+            6..=15 => {
+                let mut bytes = before.clone();
+                self.change(&mut bytes);
+                bytes
+            }
+            _ => somehow_after(&mut self.dice, &before, Ask { number, channel }),
+        };
+        if self.dice.percent(8) {
+            std::mem::swap(&mut before, &mut after);
+        }
+        let before = self.spelled(&before);
+        let after = self.spelled(&after);
+        format!("checked {before} {after} {number} {channel}")
     }
 
     /// Sound groups, damaged ones and loose bytes in a row.

@@ -4,6 +4,7 @@
 pub mod asks;
 pub mod bodies;
 pub mod broken;
+pub mod checks;
 pub mod chords;
 pub mod cntts;
 pub mod ctb2;
@@ -27,7 +28,7 @@ pub mod sound;
 pub mod spell;
 pub mod styles;
 
-use crate::calls::{answer, VERBS};
+use crate::calls::{answer, ONLY_NAMED, VERBS};
 use crate::record::is_locked;
 use dice::Dice;
 use mixture::Mixture;
@@ -48,15 +49,21 @@ pub struct Script {
 }
 
 impl Script {
-    /// The script of a seed, of these verbs only, or of all where none is named.
+    /// The script of a seed, of these verbs only, or where none is named of all but those that have
+    /// to be.
     pub fn new(seed: u64, named: &[&str]) -> Script {
         let all = named.is_empty();
         let verbs: Vec<&'static str> = VERBS
             .into_iter()
             .filter(|verb| all || named.contains(verb))
+            .chain(ONLY_NAMED.into_iter().filter(|verb| named.contains(verb)))
             .collect();
         let mut dice = Dice::new(seed);
         let mut catalogues = catalogues(&mut dice);
+        if verbs.contains(&"checked") {
+            let lines = checks::checked(&mut dice.aside());
+            catalogues.push(("checked", mixed(lines, broken::broken("checked"))));
+        }
         let mut families = families(&mut dice);
         let keep = |lists: &mut Vec<(&'static str, Vec<Line>)>| -> Vec<Vec<Line>> {
             lists.retain(|(verb, _)| verbs.contains(verb));
@@ -241,6 +248,7 @@ pub fn verb_of(line: &[u8]) -> &'static str {
     let word = first.unwrap_or(line);
     VERBS
         .into_iter()
+        .chain(ONLY_NAMED)
         .find(|verb| verb.as_bytes() == word)
         .unwrap_or("none")
 }
