@@ -5,22 +5,6 @@
  * With the kit's clang, here or on Arm: examples/build. */
 #include "style.h"
 
-/* A whole decimal number up to 255, or -1. The calls take a byte and refuse one that is too large; but 256 made a byte is 0, and would be
- * answered as 0. So a number from outside is looked at before it is narrowed. */
-static int byte_of(const char *text) {
-    int number = 0;
-    if (*text == 0)
-        return -1;
-    for (; *text != 0; text++) {
-        if (*text < '0' || *text > '9')
-            return -1;
-        number = 10 * number + (*text - '0');
-        if (number > 255)
-            return -1;
-    }
-    return number;
-}
-
 int main(int count, char **words) {
     int root = count == 5 ? byte_of(words[3]) : -1;
     int type = count == 5 ? byte_of(words[4]) : -1;
@@ -28,14 +12,10 @@ int main(int count, char **words) {
         printf("usage: plays FILE PART ROOT TYPE\n");
         return 2;
     }
-    unsigned long length;
-    if (!read_file(words[1], &length))
-        return 2;
-
-    /* The section, and the body behind its tag and length. */
-    casm_section section = casm_find(file, length);
-    if (section.number != CASM_ACCEPTED)
-        return refused(words[1], section.number, section.place);
+    casm_section section;
+    int status = find_section(words[1], &section);
+    if (status != 0)
+        return status;
     const unsigned char *body = file + section.tag + 8;
     printf("CASM at %lu, %lu bytes\n", section.tag, section.length);
 

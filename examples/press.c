@@ -4,19 +4,6 @@
  * A screen never overrides: a record that is read only is refused, but for its byte 10, by which the lock comes off. retune.c shows the other way. */
 #include "style.h"
 
-/* A whole decimal number up to 255, or -1. */
-static int byte_of(const char *text) {
-    int number = 0;
-    if (*text == 0)
-        return -1;
-    for (; *text != 0; text++) {
-        if (*text < '0' || *text > '9' || number > 25)
-            return -1;
-        number = 10 * number + (*text - '0');
-    }
-    return number > 255 ? -1 : number;
-}
-
 int main(int count, char **words) {
     int numbers[4] = {-1, -1, -1, -1};
     for (int i = 0; i < 4; i++)
@@ -25,13 +12,12 @@ int main(int count, char **words) {
         printf("usage: press FILE GROUP CHANNEL INDEX VALUE\n");
         return 2;
     }
-    unsigned long length, group = (unsigned long)numbers[0];
+    unsigned long group = (unsigned long)numbers[0];
     unsigned char channel = (unsigned char)numbers[1];
-    if (!read_file(words[1], &length))
-        return 2;
-    casm_section section = casm_find(file, length);
-    if (section.number != CASM_ACCEPTED)
-        return refused(words[1], section.number, section.place);
+    casm_section section;
+    int status = find_section(words[1], &section);
+    if (status != 0)
+        return status;
     unsigned char *body = file + section.tag + 8;
 
     /* The record, as the screen keeps it. */

@@ -8,12 +8,10 @@ int main(int count, char **words) {
         printf("usage: retune FILE\n");
         return 2;
     }
-    unsigned long length;
-    if (!read_file(words[1], &length))
-        return 2;
-    casm_section section = casm_find(file, length);
-    if (section.number != CASM_ACCEPTED)
-        return refused(words[1], section.number, section.place);
+    casm_section section;
+    int status = find_section(words[1], &section);
+    if (status != 0)
+        return status;
     unsigned char *body = file + section.tag + 8;
     casm_count groups = casm_body(body, section.length);
     if (groups.number != CASM_ACCEPTED)

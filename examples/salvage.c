@@ -20,12 +20,10 @@ int main(int count, char **words) {
         printf("usage: salvage FILE\n");
         return 2;
     }
-    unsigned long length;
-    if (!read_file(words[1], &length))
-        return 2;
-    casm_section section = casm_find(file, length);
-    if (section.number != CASM_ACCEPTED)
-        return refused(words[1], section.number, section.place);
+    casm_section section;
+    int status = find_section(words[1], &section);
+    if (status != 0)
+        return status;
     const unsigned char *body = file + section.tag + 8;
 
     /* Strictly first: a sound body has nothing to salvage. */

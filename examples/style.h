@@ -1,4 +1,4 @@
-/* What the examples share: a style file read into memory, and a refusal told in words.
+/* What the examples share: a style file read into memory and its section found, a refusal told in words, and a number taken from a word.
  * The kit's clang comes without the headers of the C library, so what is used of it is declared here. */
 #ifndef STYLE_H
 #define STYLE_H
@@ -46,5 +46,30 @@ static inline const char *in_words(unsigned char number) {
 static inline int refused(const char *what, unsigned char number, unsigned long place) {
     printf("%s: refused %d at %lu, %s\n", what, number, place, in_words(number));
     return 1;
+}
+
+/* Reads a style file and finds its CASM section, whose body stands behind its tag and length; 0, or the status that a program ends with. */
+static inline int find_section(const char *name, casm_section *section) {
+    unsigned long length;
+    if (!read_file(name, &length))
+        return 2;
+    *section = casm_find(file, length);
+    return section->number == CASM_ACCEPTED ? 0 : refused(name, section->number, section->place);
+}
+
+/* A whole decimal number up to 255, or -1. The calls take a byte and refuse one that is too large; but 256 made a byte is 0, and would be
+ * answered as 0. So a number from outside is looked at before it is narrowed. */
+static inline int byte_of(const char *text) {
+    int number = 0;
+    if (*text == 0)
+        return -1;
+    for (; *text != 0; text++) {
+        if (*text < '0' || *text > '9')
+            return -1;
+        number = 10 * number + (*text - '0');
+        if (number > 255)
+            return -1;
+    }
+    return number;
 }
 #endif
