@@ -57,7 +57,7 @@ kind == "list" && /^[a-z_:]+: / {
     refusals[name] = substr($0, length(name) + 3)
     if (name ~ /::/) face[++face_count] = name
 }
-kind == "header" && /^casm_[a-z]+ casm_[a-z]+\(/ { name = $2; sub(/\(.*/, "", name); c_calls[++c_count] = name; declared[name] = ""; in_sig = 1 }
+kind == "header" && /^casm_[a-z]+ casm_[a-z_]+\(/ { name = $2; sub(/\(.*/, "", name); c_calls[++c_count] = name; declared[name] = ""; in_sig = 1 }
 kind == "header" && in_sig { line = $0; sub(/^ +/, "", line); declared[name] = joined(declared[name], line); if (/;$/) in_sig = 0 }
 
 # ---- edits

@@ -87,7 +87,15 @@ static uint8_t table[40 * CASM_ROW_SIZE], second_table[40 * CASM_ROW_SIZE], buff
 static casm_row rows[4096], second_rows[4096];
 static size_t sections = 2000;
 
-static size_t style(uint8_t *file, size_t sections, size_t filler)
+/* What is checked lies in one piece: what was sent, and behind it what came back. */
+enum { BODIES = 2 * CASM_MAX_BODY, FILES = 2 * CASM_MAX_FILE, SMALL = 40000 };
+static uint8_t bodies[BODIES], half_bodies[BODIES], second_bodies[BODIES], half_second_bodies[BODIES];
+static size_t bodies_size, half_bodies_size, second_bodies_size, half_second_bodies_size;
+static uint8_t files[FILES], half_files[FILES / 2], small_files[2 * SMALL];
+static size_t files_size, half_files_size, small_files_size;
+
+/* A style file with so many sections before its CASM, so many bytes in the first of them. */
+static size_t style_of(uint8_t *file, size_t sections, size_t filler, const uint8_t *body, size_t size)
 {
     uint8_t *at = put(file, "MThd", 6) + 6;
     at = put(at, "MTrk", 4) + 4;
@@ -95,10 +103,11 @@ static size_t style(uint8_t *file, size_t sections, size_t filler)
         char name[5] = {(char)(i >> 24 | 1), (char)(i >> 16), (char)(i >> 8), (char)i, 0};
         at = put(at, name, i == 0 ? filler : 0) + (i == 0 ? filler : 0);
     }
-    at = put(at, "CASM", 22);
-    memcpy(at, "CSEG\0\0\0\16Sdec\0\0\0\6Main A", 22);
-    return (size_t)(at + 22 - file);
+    at = put(at, "CASM", size);
+    memcpy(at, body, size);
+    return (size_t)(at + size - file);
 }
+static size_t style(uint8_t *file, size_t sections, size_t filler) { return style_of(file, sections, filler, (const uint8_t *)"CSEG\0\0\0\16Sdec\0\0\0\6Main A", 22); }
 
 static size_t length_at(const uint8_t *at) { return (size_t)at[4] << 24 | (size_t)at[5] << 16 | (size_t)at[6] << 8 | at[7]; }
 
@@ -124,6 +133,38 @@ static void prepare_second(void)
     }
 }
 
+/* The group and channel whose record came back with other bytes. */
+enum { ASKED_GROUP = 7, ASKED_CHANNEL = 7 };
+
+/* Behind so many bytes, which end with a body, a copy of them that has another record there. The size of both is returned. */
+static size_t returned(uint8_t *pair, size_t size, const uint8_t *body, size_t body_size, void (*other)(uint8_t *, uint8_t))
+{
+    memcpy(pair + size, pair, size);
+    other(pair + size + size - body_size + casm_channel(body, body_size, ASKED_GROUP, ASKED_CHANNEL).at, ASKED_CHANNEL);
+    return 2 * size;
+}
+
+static size_t bodies_of(uint8_t *pair, const uint8_t *body, size_t size, void (*other)(uint8_t *, uint8_t))
+{
+    memcpy(pair, body, size);
+    return returned(pair, size, body, size, other);
+}
+
+/* Two files of so many bytes each: 82 are headers, and the first of six sections before the CASM makes up the rest. */
+static size_t files_of(uint8_t *pair, size_t size, const uint8_t *body, size_t body_size)
+{
+    return returned(pair, style_of(pair, 6, size - 82 - body_size, body, body_size), body, body_size, record);
+}
+
+static void prepare_checks(void)
+{
+    bodies_size = bodies_of(bodies, sound, sound_size, record), half_bodies_size = bodies_of(half_bodies, sound, sound_half, record);
+    second_bodies_size = bodies_of(second_bodies, second, second_size, second_record);
+    half_second_bodies_size = bodies_of(half_second_bodies, second, second_half, second_record);
+    files_size = files_of(files, CASM_MAX_FILE, sound, sound_size), half_files_size = files_of(half_files, CASM_MAX_FILE / 2, sound, sound_half);
+    small_files_size = files_of(small_files, SMALL, sound, sound_size);
+}
+
 static void prepare(void)
 {
     for (unsigned k = 0; k < 32; k++) sound_half = k == 16 ? sound_size : sound_half, sound_size += group(sound + sound_size, k, 16, 16);
@@ -142,6 +183,7 @@ static void prepare(void)
     for (int i = 0; i < 4096; i++)
         rows[i].edition = 1, record(rows[i].bytes, (uint8_t)(i % 16)), rows[i].bytes[20] = 0, rows[i].has_cntt = i % 2, rows[i].cntt = i % 2 ? 0x81 : 0;
     prepare_second();
+    prepare_checks();
 }
 
 /* ---- both sides of a job: one call each, its answer folded into a number that both must agree on */
@@ -156,6 +198,10 @@ static uint64_t lent(const void *at, size_t size)
 
 static const uint8_t *in;
 static size_t in_size;
+static size_t sent; /* of what is checked, so many bytes were sent, if there are so many; those behind came back */
+static void on(const uint8_t *input, size_t size) { in = input, in_size = size, sent = size / 2; }
+static size_t asked_group = ASKED_GROUP;
+static uint8_t asked_channel = ASKED_CHANNEL;
 static uint8_t *from = table;   /* the table of a group that is written .. */
 static size_t written = 16;     /* .. and how many records of it */
 static casm_row *placed = rows; /* the records of notes that are placed, and of an edit */
@@ -183,6 +229,11 @@ static uint64_t write_plain(void) WRITE(plain_write, buffer[1])
 #define EDIT(call, b) { casm_answer r = call(b, in_size, 15, 7, placed[7], CASM_OVERRIDE); return mix(mix(r.number, r.place), checking ? lent(b, in_size) : 0); }
 static uint64_t edit_proved(void) EDIT(casm_edit, edited[0])
 static uint64_t edit_plain(void) EDIT(plain_edit, edited[1])
+#define CHECK(call) { size_t n = sent < in_size ? sent : in_size; casm_checked r = call(in, n, in + n, in_size - n, asked_group, asked_channel); return mix(mix(mix(mix(r.number, r.place), r.which), r.yes), r.unlike); }
+static uint64_t check_proved(void) CHECK(casm_check)
+static uint64_t check_plain(void) CHECK(plain_check)
+static uint64_t check_files_proved(void) CHECK(casm_check_files)
+static uint64_t check_files_plain(void) CHECK(plain_check_files)
 
 /* ---- alike, then timed */
 
@@ -247,6 +298,16 @@ static void alike_placed(casm_row *lent_rows, int times)
     placed = rows;
 }
 
+/* What came back against what was sent: asked for every group and channel, there or not, and then with either of the two damaged. */
+static void alike_checked(const char *job, const uint8_t *pair, size_t size, uint64_t (*proved)(void), uint64_t (*plain)(void), int times)
+{
+    on(pair, size);
+    for (asked_group = 0; asked_group <= CASM_MAX_GROUPS; asked_group++)
+        for (asked_channel = 0; asked_channel <= CASM_MAX_RECORDS; asked_channel++) alike(job, proved, plain);
+    asked_group = ASKED_GROUP, asked_channel = ASKED_CHANNEL;
+    alike_damaged(job, pair, size, proved, plain, times);
+}
+
 static double now(void)
 {
     struct timespec t;
@@ -283,7 +344,6 @@ static void job(const char *name, uint64_t (*proved)(void), uint64_t (*plain)(vo
     fflush(NULL);
 }
 
-static void on(const uint8_t *input, size_t size) { in = input, in_size = size; }
 static void sized(const uint8_t *input, size_t size, size_t records) { on(input, size), written = records, numbers = 3 * (size / 4 + 1); }
 
 /* What is placed, written and edited is of the first edition, or of the second. */
@@ -363,6 +423,9 @@ static void ratios(void)
     job("second edition: write, 16 records", write_proved, write_plain);
     on(second_damaged, second_size), job("second edition: salvage, half damaged", salvage_proved, salvage_plain);
     on(both, both_size), job("salvage, groups of both editions", salvage_proved, salvage_plain);
+    on(bodies, bodies_size), job("check, two bodies", check_proved, check_plain);
+    on(second_bodies, second_bodies_size), job("second edition: check, two bodies", check_proved, check_plain);
+    on(files, files_size), job("check, two files of 1 MiB", check_files_proved, check_files_plain);
     of_first();
 }
 
@@ -388,6 +451,9 @@ static void growth(void)
     doubled("second edition: who plays", plays_proved, second, second_half, 16, second, second_size);
     doubled("second edition: write, 8 to 16 records", write_proved, NULL, 0, 8, NULL, 0);
     doubled("second edition: edit, 14 to 28 groups", edit_proved, edited[0], second_half, 16, edited[0], second_size);
+    doubled("check, 16 to 32 groups", check_proved, half_bodies, half_bodies_size, 16, bodies, bodies_size);
+    doubled("second edition: check, 14 to 28 groups", check_proved, half_second_bodies, half_second_bodies_size, 16, second_bodies, second_bodies_size);
+    doubled("check, two files, 0.5 to 1 MiB", check_files_proved, half_files, half_files_size, 16, files, files_size);
     of_first();
 }
 
@@ -407,6 +473,8 @@ static void stacks(void)
     stack("casm_field", field_proved);
     stack("casm_write", write_proved);
     stack("casm_records", records_proved);
+    on(bodies, bodies_size), stack("casm_check", check_proved);
+    on(files, files_size), stack("casm_check_files", check_files_proved);
 }
 
 int main(int count, char **words)
@@ -430,6 +498,10 @@ int main(int count, char **words)
     alike_damaged("body of both editions", both, both_size, body_proved, body_plain, 4000);
     alike_damaged("salvage of both editions", both, both_size, salvage_proved, salvage_plain, 300);
     alike_damaged("edit of both editions", both, both_size, edit_proved, edit_plain, 300);
+    alike_checked("check", bodies, bodies_size, check_proved, check_plain, 2000);
+    alike_checked("second check", second_bodies, second_bodies_size, check_proved, check_plain, 2000);
+    alike_checked("check of files", small_files, small_files_size, check_files_proved, check_files_plain, 2000);
+    on(bodies, bodies_size), in_size = sent + sound_half, alike("check, half of it came back", check_proved, check_plain);
     alike_placed(rows, 50), alike_placed(second_rows, 50);
     alike_written(table, 2000), alike_written(second_table, 2000);
     printf("alike on damaged inputs\n");

@@ -444,6 +444,7 @@ static void test_large_numbers(void) {
     test("large: a voice's group", casm_voice(body, BODY_SIZE, large, three[0].bytes[0]).number == CASM_BAD_NUMBER);
     test("large: an edit's group", casm_edit(changed, BODY_SIZE, large, three[0].bytes[0], three[0], CASM_KEEP_LOCKED).number == CASM_BAD_NUMBER);
     test("large: the records' group", casm_records(body, BODY_SIZE, large, 0, 0).number == CASM_BAD_NUMBER);
+    test("large: a check's group", casm_check(body, BODY_SIZE, body, BODY_SIZE, large, three[0].bytes[0]).number == CASM_BAD_NUMBER);
     test("large: a field's index", casm_field(three[0], large, 0).number == CASM_BAD_NUMBER);
     test("large: a count", casm_write((const unsigned char *)"Main A", 6, 0, 0, large, out, sizeof out).number == CASM_BAD_NUMBER);
 }
@@ -664,8 +665,176 @@ static void test_second_limit(void) {
     test("second limit: one more", casm_body(large, sizeof large).number == CASM_OVER_LIMIT);
 }
 
+/* ---- checking what other editors return: document 02, section 13 */
+
+static int is_yes(casm_checked checked) {
+    return checked.number == CASM_ACCEPTED && checked.place == 0 && checked.which == CASM_NEITHER && checked.yes == 1 && checked.unlike == 0;
+}
+
+static int is_no(casm_checked checked, unsigned long unlike) {
+    return checked.number == CASM_ACCEPTED && checked.place == 0 && checked.which == CASM_NEITHER && checked.yes == 0 && checked.unlike == unlike;
+}
+
+static int is_refused(casm_checked checked, unsigned char number, unsigned long place, unsigned char which) {
+    return checked.number == number && checked.place == place && checked.which == which && checked.yes == 0 && checked.unlike == 0;
+}
+
+/* The body against itself with one byte changed, asked for its channel 7, the last of three. */
+enum { LAST_AT = M_SIZE + 2 * 35 + 8, CNTT_AT = M_SIZE + 3 * 35 };
+
+static casm_checked check_changed(unsigned long at, unsigned char value) {
+    unsigned char changed[BODY_SIZE];
+    memcpy(changed, body, BODY_SIZE);
+    changed[at] = value;
+    return casm_check(body, BODY_SIZE, changed, BODY_SIZE, 0, 7);
+}
+
+static void test_check(void) {
+    unsigned char changed[BODY_SIZE], locked[BODY_SIZE];
+    casm_row row = record(7);
+    memcpy(changed, body, BODY_SIZE);
+    test("check: unchanged", is_yes(casm_check(body, BODY_SIZE, changed, BODY_SIZE, 0, 7)));
+    test("check: against itself", is_yes(casm_check(body, BODY_SIZE, body, BODY_SIZE, 0, 3)));
+    row.bytes[1] = 'C', row.bytes[18] = 2, row.bytes[25] = 5;
+    casm_edit(changed, BODY_SIZE, 0, 7, row, CASM_KEEP_LOCKED);
+    test("check: what an edit wrote", changed[LAST_AT + 25] == 5 && is_yes(casm_check(body, BODY_SIZE, changed, BODY_SIZE, 0, 7)));
+    test("check: asked for another channel", is_no(casm_check(body, BODY_SIZE, changed, BODY_SIZE, 0, 3), LAST_AT + 1));
+    test("check: the first byte, renumbered", is_yes(check_changed(LAST_AT, 4)));
+    test("check: the last that may change", is_yes(check_changed(LAST_AT + 25, 5)));
+    test("check: locked", is_yes(check_changed(LAST_AT + 10, 1)));
+    memcpy(locked, body, BODY_SIZE);
+    locked[LAST_AT + 10] = 1;
+    test("check: the lock taken off", is_yes(casm_check(locked, BODY_SIZE, body, BODY_SIZE, 0, 7)));
+    memcpy(changed, locked, BODY_SIZE);
+    changed[LAST_AT + 24] = 100;
+    test("check: changed under its lock", is_yes(casm_check(locked, BODY_SIZE, changed, BODY_SIZE, 0, 7)));
+}
+
+static void test_check_unlike(void) {
+    unsigned char changed[2 * BODY_SIZE];
+    test("check: a name", is_no(check_changed(M_SIZE - 1, 'B'), M_SIZE - 1));
+    test("check: a byte of a record before", is_no(check_changed(M_SIZE + 8 + 24, 100), M_SIZE + 8 + 24));
+    test("check: the last of the record before", is_no(check_changed(LAST_AT - 8 - 2, 5), LAST_AT - 8 - 2));
+    test("check: a Cntt behind", is_no(check_changed(CNTT_AT + 9, 0x84), CNTT_AT + 9));
+    memcpy(changed, body, BODY_SIZE);
+    changed[CNTT_AT + 9] = 0x84, changed[LAST_AT + 18] = 2;
+    test("check: a Cntt behind, and the record", is_no(casm_check(body, BODY_SIZE, changed, BODY_SIZE, 0, 7), CNTT_AT + 9));
+    changed[M_SIZE - 1] = 'B';
+    test("check: the first of two", is_no(casm_check(body, BODY_SIZE, changed, BODY_SIZE, 0, 7), M_SIZE - 1));
+    unsigned long longer = joined(changed, body, BODY_SIZE, newer + NEWER_GROUP, M_SIZE);
+    test("check: a group more", is_no(casm_check(body, BODY_SIZE, changed, longer, 0, 7), BODY_SIZE));
+    test("check: a group less", is_no(casm_check(changed, longer, body, BODY_SIZE, 0, 7), BODY_SIZE));
+    test("check: a shorter group", is_no(casm_check(body, BODY_SIZE, M, M_SIZE, 0, 7), 7));
+    test("check: nothing came back", is_no(casm_check(body, BODY_SIZE, 0, 0, 0, 7), 0));
+}
+
+static void test_check_refused(void) {
+    unsigned char changed[BODY_SIZE];
+    memcpy(changed, body, BODY_SIZE);
+    test("check: the body before", is_refused(casm_check(M, 7, body, BODY_SIZE, 0, 7), CASM_CUT_OFF, 0, CASM_BEFORE_BODY));
+    changed[LAST_AT + 24] = 200;
+    test("check: the body after", is_refused(casm_check(body, BODY_SIZE, changed, BODY_SIZE, 0, 7), CASM_OUT_OF_RANGE, LAST_AT + 24, CASM_AFTER_BODY));
+    test("check: before first", is_refused(casm_check(changed, BODY_SIZE, M, 7, 9, 99), CASM_OUT_OF_RANGE, LAST_AT + 24, CASM_BEFORE_BODY));
+    test("check: after, then the group", is_refused(casm_check(body, BODY_SIZE, M, 7, 1, 99), CASM_CUT_OFF, 0, CASM_AFTER_BODY));
+    test("check: no such group", is_refused(casm_check(body, BODY_SIZE, M, M_SIZE, 1, 99), CASM_BAD_NUMBER, 0, CASM_BEFORE_BODY));
+    test("check: no such channel", is_refused(casm_check(body, BODY_SIZE, M, M_SIZE, 0, 4), CASM_NOT_THERE, 0, CASM_BEFORE_BODY));
+    test("check: a channel that only the body after has", is_refused(casm_check(M, M_SIZE, body, BODY_SIZE, 0, 7), CASM_NOT_THERE, 0, CASM_BEFORE_BODY));
+    test("check: no bytes", is_refused(casm_check(0, 0, 0, 0, 0, 7), CASM_BAD_NUMBER, 0, CASM_BEFORE_BODY));
+    test("check: no bytes before", is_refused(casm_check(0, 0, body, BODY_SIZE, 0, 7), CASM_BAD_NUMBER, 0, CASM_BEFORE_BODY));
+    test("check: the end marker", is_refused(check_changed(LAST_AT + 26, 1), CASM_OUT_OF_RANGE, LAST_AT + 26, CASM_AFTER_BODY));
+    test("check: renumbered as another", is_refused(check_changed(LAST_AT, 3), CASM_CHANNEL_AGAIN, LAST_AT - 8, CASM_AFTER_BODY));
+    memcpy(changed, body, BODY_SIZE);
+    changed[LAST_AT - 35] = 9;
+    test("check: renumbered away from its Cntt", is_refused(casm_check(body, BODY_SIZE, changed, BODY_SIZE, 0, 0), CASM_STRAY_CNTT, CNTT_AT, CASM_AFTER_BODY));
+}
+
+static void test_second_check(void) {
+    const unsigned long last_at = M_SIZE + SECOND_SIZE + 8;
+    unsigned char changed[NEWER_SIZE];
+    casm_row row = second_record(7);
+    row.bytes[20] = 1, row.bytes[46] = 1;
+    memcpy(changed, newer, NEWER_SIZE);
+    casm_edit(changed, NEWER_SIZE, 0, 7, row, CASM_KEEP_LOCKED);
+    test("second check: what an edit wrote", changed[last_at + 46] == 1 && is_yes(casm_check(newer, NEWER_SIZE, changed, NEWER_SIZE, 0, 7)));
+    test("second check: asked for another channel", is_no(casm_check(newer, NEWER_SIZE, changed, NEWER_SIZE, 0, 3), last_at + 20));
+    changed[last_at] = 15, changed[last_at + 10] = 1;
+    test("second check: renumbered and locked", is_yes(casm_check(newer, NEWER_SIZE, changed, NEWER_SIZE, 0, 7)));
+    test("second check: the channel is not looked for after", is_refused(casm_check(newer, NEWER_SIZE, changed, NEWER_SIZE, 0, 15), CASM_NOT_THERE, 0, CASM_BEFORE_BODY));
+    changed[last_at - 8 - 1] = 1;
+    test("second check: the last byte of the record before", is_no(casm_check(newer, NEWER_SIZE, changed, NEWER_SIZE, 0, 7), last_at - 8 - 1));
+    memcpy(changed, newer, NEWER_SIZE);
+    changed[NEWER_SIZE - 1] = 'C';
+    test("second check: a name behind", is_no(casm_check(newer, NEWER_SIZE, changed, NEWER_SIZE, 0, 7), NEWER_SIZE - 1));
+    test("second check: a group less", is_no(casm_check(newer, NEWER_SIZE, newer, NEWER_GROUP, 0, 7), NEWER_GROUP));
+    test("second check: a group without records", is_refused(casm_check(newer, NEWER_SIZE, newer, NEWER_SIZE, 1, 7), CASM_NOT_THERE, 0, CASM_BEFORE_BODY));
+    test("second check: of another edition", is_no(casm_check(newer, NEWER_SIZE, body, BODY_SIZE, 0, 7), 7));
+    unsigned char both[BODY_SIZE + NEWER_SIZE];
+    unsigned long size = joined(both, newer, NEWER_SIZE, body, BODY_SIZE);
+    test("second check: of both editions", is_refused(casm_check(newer, NEWER_SIZE, both, size, 0, 7), CASM_OTHER_EDITION, NEWER_SIZE, CASM_AFTER_BODY));
+}
+
+/* A style file: the head of the example of `list`, the body in its CASM, and a section of two bytes behind. `moved` has that section before its CASM. */
+#define OTHER_SECTION "OTSc\0\0\0\2\1\2"
+enum { OTHER_SIZE = 10, FILE_BODY = STYLE_TAG + 8, OTHER_AT = FILE_BODY + BODY_SIZE, FILE_SIZE = OTHER_AT + OTHER_SIZE };
+static unsigned char whole[FILE_SIZE], moved[FILE_SIZE];
+
+static void prepare_files(void) {
+    const unsigned char head[8] = {'C', 'A', 'S', 'M', 0, 0, 0, BODY_SIZE};
+    memcpy(whole, style, STYLE_TAG);
+    memcpy(whole + STYLE_TAG, head, 8);
+    memcpy(whole + FILE_BODY, body, BODY_SIZE);
+    memcpy(whole + OTHER_AT, OTHER_SECTION, OTHER_SIZE);
+    memcpy(moved, style, STYLE_TAG);
+    memcpy(moved + STYLE_TAG, OTHER_SECTION, OTHER_SIZE);
+    memcpy(moved + STYLE_TAG + OTHER_SIZE, whole + STYLE_TAG, 8 + BODY_SIZE);
+}
+
+static casm_checked check_file_changed(unsigned long at, unsigned char value) {
+    unsigned char changed[FILE_SIZE];
+    memcpy(changed, whole, FILE_SIZE);
+    changed[at] = value;
+    return casm_check_files(whole, FILE_SIZE, changed, FILE_SIZE, 0, 7);
+}
+
+static void test_check_files(void) {
+    prepare_files();
+    test("check files: against itself", is_yes(casm_check_files(whole, FILE_SIZE, whole, FILE_SIZE, 0, 7)));
+    test("check files: the record", is_yes(check_file_changed(FILE_BODY + LAST_AT + 24, 100)));
+    test("check files: renumbered", is_yes(check_file_changed(FILE_BODY + LAST_AT, 15)));
+    test("check files: locked", is_yes(check_file_changed(FILE_BODY + LAST_AT + 10, 1)));
+}
+
+static void test_check_files_unlike(void) {
+    unsigned char longer[FILE_SIZE + 8];
+    test("check files: the file's head", is_no(check_file_changed(STYLE_TAG - 13, 1), STYLE_TAG - 13));
+    test("check files: a name", is_no(check_file_changed(FILE_BODY + M_SIZE - 1, 'B'), FILE_BODY + M_SIZE - 1));
+    test("check files: a Cntt", is_no(check_file_changed(FILE_BODY + CNTT_AT + 9, 0x84), FILE_BODY + CNTT_AT + 9));
+    test("check files: another section's tag", is_no(check_file_changed(OTHER_AT, 'o'), OTHER_AT));
+    test("check files: the last byte", is_no(check_file_changed(FILE_SIZE - 1, 0), FILE_SIZE - 1));
+    test("check files: the sections in another order", is_no(casm_check_files(whole, FILE_SIZE, moved, FILE_SIZE, 0, 7), STYLE_TAG));
+    unsigned long size = joined(longer, whole, FILE_SIZE, bytes("MHhd\0\0\0\0"), 8);
+    test("check files: a section more", is_no(casm_check_files(whole, FILE_SIZE, longer, size, 0, 7), FILE_SIZE));
+    test("check files: a section less", is_no(casm_check_files(whole, FILE_SIZE, whole, OTHER_AT, 0, 7), OTHER_AT));
+}
+
+static void test_check_files_refused(void) {
+    test("check files: the file before", is_refused(casm_check_files(whole, STYLE_TAG, M, 7, 9, 99), CASM_NO_CASM, STYLE_TAG, CASM_BEFORE_FILE));
+    test("check files: the file after", is_refused(casm_check_files(whole, FILE_SIZE, whole, STYLE_TAG, 9, 99), CASM_NO_CASM, STYLE_TAG, CASM_AFTER_FILE));
+    test("check files: both files before the bodies", is_refused(casm_check_files(style, STYLE_SIZE, whole, OTHER_AT + 7, 0, 7), CASM_CUT_OFF, OTHER_AT, CASM_AFTER_FILE));
+    test("check files: the body before", is_refused(casm_check_files(style, STYLE_SIZE, style, STYLE_SIZE, 0, 7), CASM_CUT_OFF, FILE_BODY + M_SIZE, CASM_BEFORE_BODY));
+    test("check files: the body after", is_refused(casm_check_files(whole, FILE_SIZE, style, STYLE_SIZE, 9, 99), CASM_CUT_OFF, FILE_BODY + M_SIZE, CASM_AFTER_BODY));
+    moved[FILE_BODY + OTHER_SIZE + LAST_AT + 24] = 200;
+    casm_checked checked = casm_check_files(whole, FILE_SIZE, moved, FILE_SIZE, 0, 7);
+    test("check files: a body elsewhere", is_refused(checked, CASM_OUT_OF_RANGE, FILE_BODY + OTHER_SIZE + LAST_AT + 24, CASM_AFTER_BODY));
+    test("check files: no such group", is_refused(casm_check_files(whole, FILE_SIZE, whole, FILE_SIZE, 1, 99), CASM_BAD_NUMBER, 0, CASM_BEFORE_BODY));
+    test("check files: no such channel", is_refused(casm_check_files(whole, FILE_SIZE, whole, FILE_SIZE, 0, 4), CASM_NOT_THERE, 0, CASM_BEFORE_BODY));
+    test("check files: no bytes", is_refused(casm_check_files(0, 0, 0, 0, 0, 7), CASM_NOT_A_STYLE_FILE, 0, CASM_BEFORE_FILE));
+    test("check files: no bytes after", is_refused(casm_check_files(whole, FILE_SIZE, 0, 0, 0, 7), CASM_NOT_A_STYLE_FILE, 0, CASM_AFTER_FILE));
+    test("check files: large numbers", casm_check_files(whole, FILE_SIZE, whole, FILE_SIZE, 1UL << 32, 7).number == CASM_BAD_NUMBER);
+}
+
 int main(void) {
-    test("the version", CASM_VERSION == 4000);
+    test("the version", CASM_VERSION == 4001);
     prepare();
     test_find();
     test_body();
@@ -696,6 +865,13 @@ int main(void) {
     test_second_field();
     test_second_place();
     test_second_limit();
+    test_check();
+    test_check_unlike();
+    test_check_refused();
+    test_second_check();
+    test_check_files();
+    test_check_files_unlike();
+    test_check_files_refused();
     printf("%d tests of the header, %d failed\n", tests, failed);
     return failed != 0;
 }

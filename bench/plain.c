@@ -230,6 +230,15 @@ static struct fault read_groups(const uint8_t *s, size_t size, struct group *gro
     return *count = k, fine;
 }
 
+/* The place of the record of a source channel, in a group that stands at `at`; 0 where it has none. */
+static inline size_t record_of(const uint8_t *s, size_t at, const struct group *g, uint8_t source)
+{
+    size_t step = 8 + size_of(g->edition), end = at + g->ctabs + 8 + step * g->records;
+    for (at += g->ctabs + 8; at != end; at += step)
+        if (s[at] == source) return at;
+    return 0;
+}
+
 casm_count plain_body(const uint8_t *body, size_t size)
 {
     struct group groups[GROUPS];
@@ -417,11 +426,9 @@ casm_answer plain_edit(uint8_t *body, size_t size, size_t group, uint8_t source,
     struct fault f = read_groups(body, size, groups, places, &count);
     if (f.number) return r.number = f.number, r.place = f.place, r;
     if (group >= count) return r.number = 16, r;
-    size_t edition = groups[group].edition;
-    size_t step = 8 + size_of(edition);
-    uint8_t *b = body + places[group] + groups[group].ctabs + 8, *end = b + step * groups[group].records;
-    while (b != end && *b != source) b += step;
-    if (b == end) return r.number = 15, r;
+    size_t edition = groups[group].edition, at = record_of(body, places[group], &groups[group], source);
+    if (at == 0) return r.number = 15, r;
+    uint8_t *b = body + at;
     if (row.bytes[0] != source) return r.number = 16, r;
     if (edition_of(row.edition) != edition) return r.number = 21, r;
     if (b[10] == 1 && over != 1) return r.number = 22, r.place = 10, r;
@@ -430,4 +437,59 @@ casm_answer plain_edit(uint8_t *body, size_t size, size_t group, uint8_t source,
     memcpy(b, row.bytes, held);
     if (edition == FIRST) b[26] = 0;
     return r;
+}
+
+/* ---- checking what came back */
+
+/* A body or a file, the place of the body in it, and its length. */
+struct lent { const uint8_t *at; size_t size, body, length; };
+
+static casm_checked denied(uint8_t number, size_t place, uint8_t which) { return (casm_checked){number, place, which, 0, 0}; }
+
+/* The first of n bytes that are unlike, or n. Few are: so all are compared at once, and the place is looked for only where there is one. */
+static size_t first_unlike(const uint8_t *a, const uint8_t *b, size_t n)
+{
+    size_t i = 0;
+    if (memcmp(a, b, n) == 0) return n;
+    while (a[i] == b[i]) i++;
+    return i;
+}
+
+/* Compares the two outside so many bytes at a place of the first. */
+static casm_checked compared(const struct lent *before, const struct lent *after, size_t at, size_t size)
+{
+    size_t end = before->size < after->size ? before->size : after->size, stop = at < end ? at : end, behind = at + size;
+    size_t k = first_unlike(before->at, after->at, stop);
+    if (k == stop) k = behind < end ? behind + first_unlike(before->at + behind, after->at + behind, end - behind) : end;
+    _Bool yes = k == end && before->size == after->size;
+    return (casm_checked){0, 0, 0, yes, yes ? 0 : k};
+}
+
+static casm_checked check(const struct lent *before, const struct lent *after, size_t group, uint8_t source)
+{
+    struct group groups[GROUPS];
+    size_t places[GROUPS], count = 0, at = 0, size = 0;
+    struct fault f = read_groups(before->at + before->body, before->length, groups, places, &count);
+    if (f.number) return denied(f.number, before->body + f.place, 3);
+    _Bool there = group < count;
+    if (there) at = record_of(before->at + before->body, places[group], &groups[group], source), size = size_of(groups[group].edition);
+    f = read_groups(after->at + after->body, after->length, groups, places, &count);
+    if (f.number) return denied(f.number, after->body + f.place, 4);
+    if (!there) return denied(16, 0, 3);
+    if (at == 0) return denied(15, 0, 3);
+    return compared(before, after, before->body + at, size);
+}
+
+casm_checked plain_check(const uint8_t *before, size_t before_size, const uint8_t *after, size_t after_size, size_t group, uint8_t source)
+{
+    return check(&(struct lent){before, before_size, 0, before_size}, &(struct lent){after, after_size, 0, after_size}, group, source);
+}
+
+casm_checked plain_check_files(const uint8_t *before, size_t before_size, const uint8_t *after, size_t after_size, size_t group, uint8_t source)
+{
+    casm_section x = plain_find(before, before_size);
+    if (x.number) return denied(x.number, x.place, 1);
+    casm_section y = plain_find(after, after_size);
+    if (y.number) return denied(y.number, y.place, 2);
+    return check(&(struct lent){before, before_size, x.tag + 8, x.length}, &(struct lent){after, after_size, y.tag + 8, y.length}, group, source);
 }

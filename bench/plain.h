@@ -11,4 +11,6 @@ casm_players plain_plays(const uint8_t *body, size_t size, const uint8_t *part, 
 casm_note plain_place(casm_row row, uint8_t root, uint8_t note);
 casm_length plain_write(const uint8_t *text, size_t length, const uint8_t *table, size_t bytes, size_t count, uint8_t *out, size_t room);
 casm_answer plain_edit(uint8_t *body, size_t size, size_t group, uint8_t source, casm_row row, uint8_t over);
+casm_checked plain_check(const uint8_t *before, size_t before_size, const uint8_t *after, size_t after_size, size_t group, uint8_t source);
+casm_checked plain_check_files(const uint8_t *before, size_t before_size, const uint8_t *after, size_t after_size, size_t group, uint8_t source);
 #endif

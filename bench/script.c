@@ -539,12 +539,56 @@ static int salvage(Text *line) {
     return 1;
 }
 
+/* Yes, or no with its place. An accepted answer refuses neither, `yes` is 0 or 1, and a yes has no place: where that does not hold, it is told otherwise. */
+static void print_yes_or_no(casm_checked checked) {
+    print(checked.yes == 0 ? " no" : checked.yes == 1 ? " yes" : " ?");
+    if (checked.yes == 0)
+        print_number(checked.unlike);
+    if (checked.which != CASM_NEITHER || (checked.yes != 0 && checked.unlike != 0))
+        print(" and more");
+}
+
+/* What is refused. */
+static void print_which(unsigned char which) {
+    static const char *const words[] = {
+        [CASM_BEFORE_FILE] = " beforefile", [CASM_AFTER_FILE] = " afterfile", [CASM_BEFORE_BODY] = " before", [CASM_AFTER_BODY] = " after"};
+    print(which >= CASM_BEFORE_FILE && which <= CASM_AFTER_BODY ? words[which] : " ?");
+}
+
+typedef casm_checked Check(const unsigned char *, unsigned long, const unsigned char *, unsigned long, unsigned long, unsigned char);
+
+/* What `checked` and `checkedfile` share: their tokens, and how the answer is told. */
+static int compared(Text *line, Check *check) {
+    Lent before, after;
+    unsigned long group;
+    unsigned char source;
+    if (!bytes(line, body_end, &before) || !bytes(line, name_end, &after) || !number(line, &group) || !byte(line, &source) || !ended(line))
+        return 0;
+    casm_checked checked = check(before.at, before.length, after.at, after.length, group, source);
+    if (told(checked.number, checked.place, checked.yes | checked.unlike))
+        print_yes_or_no(checked);
+    else
+        print_which(checked.which);
+    return 1;
+}
+
+/* checked BEFORE AFTER G CHANNEL */
+static int checked(Text *line) {
+    return compared(line, casm_check);
+}
+
+/* checkedfile BEFORE AFTER G CHANNEL */
+static int checked_file(Text *line) {
+    return compared(line, casm_check_files);
+}
+
 static const struct {
     const char *name;
     int (*answer)(Text *line);
 } verbs[] = {
-    {"find", find},   {"body", body},   {"part", part},         {"where", where}, {"channel", channel}, {"group", group},     {"voice", voice},
-    {"plays", plays}, {"place", place}, {"write", write_group}, {"edit", edit},   {"screen", screen},   {"salvage", salvage},
+    {"find", find},   {"body", body},     {"part", part},       {"where", where},     {"channel", channel},
+    {"group", group}, {"voice", voice},   {"plays", plays},     {"place", place},     {"write", write_group},
+    {"edit", edit},   {"screen", screen}, {"salvage", salvage}, {"checked", checked}, {"checkedfile", checked_file},
 };
 
 static int answered(Text line) {

@@ -12,13 +12,13 @@ long read(int from, void *into, unsigned long count);
 /* A byte more than a style file may have, so that a longer one is refused as such and not cut. */
 static unsigned char file[CASM_MAX_FILE + 1];
 
-/* Reads a file up to that length; 0 where it cannot be read. */
-static inline int read_file(const char *name, unsigned long *length) {
+/* Reads a file up to that length, into room for as much; 0 where it cannot be read. */
+static inline int read_file(const char *name, unsigned char *into, unsigned long *length) {
     int from = open(name, 0);
     long got = from < 0 ? -1 : 1;
     *length = 0;
     while (got > 0 && *length < sizeof file) {
-        got = read(from, file + *length, sizeof file - *length);
+        got = read(from, into + *length, sizeof file - *length);
         if (got > 0)
             *length += (unsigned long)got;
     }
@@ -51,7 +51,7 @@ static inline int refused(const char *what, unsigned char number, unsigned long 
 /* Reads a style file and finds its CASM section, whose body stands behind its tag and length; 0, or the status that a program ends with. */
 static inline int find_section(const char *name, casm_section *section) {
     unsigned long length;
-    if (!read_file(name, &length))
+    if (!read_file(name, file, &length))
         return 2;
     *section = casm_find(file, length);
     return section->number == CASM_ACCEPTED ? 0 : refused(name, section->number, section->place);

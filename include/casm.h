@@ -2,8 +2,9 @@
  *
  * Every call takes every input: no number, length or content of what is lent is wrong, and what cannot be done is refused.
  * An answer carries a number and a place. Number 0 accepts, at place 0. Any other number refuses; then every other field of the answer is 0
- * and lent memory is as it was. One field is not 0 then: `held` of casm_field is the record as it was, because the editing screen goes on
- * showing it. A place is counted from the start of the bytes that were lent; in a record that is handed over it is the byte of the record.
+ * and lent memory is as it was. Two fields are not 0 then: `held` of casm_field is the record as it was, because the editing screen goes on
+ * showing it, and `which` of casm_check and casm_check_files says which of the two that were lent is refused.
+ * A place is counted from the start of the bytes that were lent; in a record that is handed over it is the byte of the record.
  *
  *    1  not a style file                            11  a Cntt without its Ctab
  *    2  a chunk is cut off                          12  more than 32 groups
@@ -15,7 +16,7 @@
  *       or a Cntt not of 2                          18  the positions of the Cntts are wrong
  *    8  a rule on an Sdec's text is broken          21  another edition: a group than the first with records, a record to
  *    9  a byte out of its range                         be written than the first, or an edit's than the one in the body
- *   10  a channel's second Ctab, Ctb2 or Cntt
+ *   10  a channel's second Ctab, Ctb2 or Cntt      22  read only: the record is locked
  *
  * What a caller owes, since C checks none of it: a pointer and its length name memory that is there for the whole call, that nothing
  * else writes meanwhile and, where it is lent to be written (no const), that overlaps nothing else that is lent to the same call.
@@ -43,9 +44,11 @@
  *  - say in each casm_edit whether a lock is overridden: CASM_OVERRIDE for what must change a record whatever its byte 10, as a batch does,
  *    which is answered as 3.0 answered, or CASM_KEEP_LOCKED;
  *  - expect 22 from casm_edit with CASM_KEEP_LOCKED where byte 10 of the record in the body is 01, and from casm_field where that of the row is,
- *    for every index but 10: a lock is taken off by setting byte 10 to 00. */
+ *    for every index but 10: a lock is taken off by setting byte 10 to 00.
+ * 4.1: What other editors return is checked: casm_check and casm_check_files are new, and the constants of their `which`. These are added and
+ *    nothing else changes: what uses 4.0 stays as it is. */
 #define CASM_VERSION_MAJOR 4
-#define CASM_VERSION_MINOR 0
+#define CASM_VERSION_MINOR 1
 #define CASM_VERSION (1000 * CASM_VERSION_MAJOR + CASM_VERSION_MINOR)
 
 /* The numbers of refusal. */
@@ -90,6 +93,11 @@
 #define CASM_SECOND_EDITION 2    /* the other edition (Ctb2), .. */
 #define CASM_SECOND_BYTES 47     /* .. the same of it .. */
 #define CASM_SECOND_SIZE 47      /* .. and of its Ctb2 */
+#define CASM_NEITHER 0           /* which of the two that are checked is refused: neither, where the call accepts, .. */
+#define CASM_BEFORE_FILE 1       /* .. the file before, in which no CASM section is found, .. */
+#define CASM_AFTER_FILE 2        /* .. the file after, .. */
+#define CASM_BEFORE_BODY 3       /* .. the body before, or what is asked of it, .. */
+#define CASM_AFTER_BODY 4        /* .. or the body after */
 
 #ifdef __cplusplus
 extern "C" {
@@ -203,6 +211,17 @@ typedef struct {
     casm_row held;
 } casm_edited;
 
+/* Whether two bodies, or two style files, are alike but for one record: `yes` is 1 where they are. Where it is 0 and number is 0, the answer is no, and
+ * `unlike` is the first place outside the record at which they have different bytes, or the end of the shorter where there is none before it;
+ * for a yes it is 0. On refusal `which` is CASM_BEFORE_FILE, CASM_AFTER_FILE, CASM_BEFORE_BODY or CASM_AFTER_BODY, else CASM_NEITHER. */
+typedef struct {
+    unsigned char number;
+    unsigned long place;
+    unsigned char which;
+    unsigned char yes;
+    unsigned long unlike;
+} casm_checked;
+
 /* Finds the CASM section of a style file. No group is read. Where it is found, tag + 8 + length is at most file_length.
  * Refusals: 3, 1; per section 2, 4; then 5, 3. */
 casm_section casm_find(const unsigned char *file, unsigned long file_length);
@@ -253,6 +272,25 @@ casm_note casm_place(casm_row row, unsigned char root, unsigned char note);
  * number is as CASM_KEEP_LOCKED); 9, at the byte of the record. */
 casm_answer casm_edit(
     unsigned char *body, unsigned long body_length, unsigned long group, unsigned char source, casm_row row, unsigned char over);
+
+/* Checks what another editor returned. It is yes exactly when both bodies are readable, equally long, and differ in no byte outside the record of
+ * that group and source channel of `before`: the 27 bytes of its Ctab, or the 47 of its Ctb2, without tag and length. So what casm_edit wrote is
+ * a yes, and an unchanged body too. No is an accepted answer: look at `yes`, and not at `number` alone.
+ * Within the record any byte may have changed, if only `after` reads: its source channel (byte 0) and its lock (byte 10) too. So "changed one channel"
+ * can mean renumbered. Where that matters, look at these two: casm_channel says where they stand in `before`, and they stand there in `after`.
+ * The group and the channel are looked for in `before` alone.
+ * Refusals: the body's, of `before`, then of `after`; then of `before`, at 0, 16 where there is no such group; 15. `which` is CASM_BEFORE_BODY or
+ * CASM_AFTER_BODY. */
+casm_checked casm_check(
+    const unsigned char *before, unsigned long before_length, const unsigned char *after, unsigned long after_length, unsigned long group,
+    unsigned char source);
+
+/* casm_check of two style files: all bytes of the two are compared but those of that record, the other sections too. Places, `unlike` among
+ * them, are counted from the start of the file: in a body, from its CASM tag's place + 8 on. 16 and 15 stand at 0.
+ * Refusals: casm_find's, of `before`, then of `after`, `which` being CASM_BEFORE_FILE or CASM_AFTER_FILE; then casm_check's. */
+casm_checked casm_check_files(
+    const unsigned char *before, unsigned long before_length, const unsigned char *after, unsigned long after_length, unsigned long group,
+    unsigned char source);
 
 /* One byte (index 0-25, or 0-46 in the second edition) of a record set to a value, all others kept, and its Cntt with its position.
  * Only the value is judged, a set's table by the rule that the record then has (over 2 counts as 0): so a rule 2 may be set over a table that

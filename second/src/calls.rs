@@ -2,7 +2,7 @@
 //! library on lent memory that starts out as a sentinel.
 
 use crate::body::{read_body, read_group};
-use crate::check::{check, Checked, Which};
+use crate::check::{check, check_files, Check, Checked, Which};
 use crate::edit::edit;
 use crate::edition::{Edition, FIELDS};
 use crate::list::LIST_ROOM;
@@ -30,7 +30,7 @@ pub const VERBS: [&str; 13] = [
 
 /// The verbs that a generated script has only where they are named, so that one of no named verb
 /// stays as it was before they came.
-pub const ONLY_NAMED: [&str; 1] = ["checked"];
+pub const ONLY_NAMED: [&str; 2] = ["checked", "checkedfile"];
 
 /// The most that a line may lend.
 pub const RECORD_ROOM: usize = 32;
@@ -110,12 +110,18 @@ fn run(tokens: &[&[u8]]) -> Option<String> {
         (b"channel", &[body, group, channel]) => {
             Some(run_channel(&bytes(body)?, number(group)?, byte(channel)?))
         }
-        (b"checked", &[before, after, group, channel]) => Some(run_checked(
+        (b"checked", &[before, after, group, channel]) => Some(show_check(check(
             &bytes(before)?,
             &bytes(after)?,
             number(group)?,
             byte(channel)?,
-        )),
+        ))),
+        (b"checkedfile", &[before, after, group, channel]) => Some(show_check(check_files(
+            &bytes(before)?,
+            &bytes(after)?,
+            number(group)?,
+            byte(channel)?,
+        ))),
         (b"salvage", &[body, lent]) => Some(run_salvage(&bytes(body)?, room(lent, LIST_ROOM)?)),
         _ => None,
     }
@@ -262,12 +268,21 @@ fn run_channel(body: &[u8], group: u32, channel: u8) -> String {
     }
 }
 
-fn run_checked(before: &[u8], after: &[u8], group: u32, channel: u8) -> String {
-    match check(before, after, group, channel) {
+fn show_check(answer: Check) -> String {
+    match answer {
         Ok(Checked::Yes) => "ok yes".to_string(),
         Ok(Checked::No(place)) => format!("ok no {place}"),
-        Err((refusal, Which::Before)) => format!("{} before", refused(refusal)),
-        Err((refusal, Which::After)) => format!("{} after", refused(refusal)),
+        Err((refusal, which)) => format!("{} {}", refused(refusal), which_word(which)),
+    }
+}
+
+/// WHICH: the word for what a check's refusal speaks of.
+fn which_word(which: Which) -> &'static str {
+    match which {
+        Which::BeforeFile => "beforefile",
+        Which::AfterFile => "afterfile",
+        Which::Before => "before",
+        Which::After => "after",
     }
 }
 

@@ -20,9 +20,14 @@ pub struct Found {
 }
 
 impl Found {
+    /// Where the body begins, behind tag and length.
+    pub fn body_place(&self) -> usize {
+        self.tag_place + HEADER
+    }
+
     /// The body among the bytes of its file.
     pub fn body<'a>(&self, file: &'a [u8]) -> &'a [u8] {
-        let start = self.tag_place + HEADER;
+        let start = self.body_place();
         &file[start..start + self.body_length]
     }
 }

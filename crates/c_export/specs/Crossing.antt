@@ -1,7 +1,7 @@
 -- What crosses to C, as the answers of the layout: field by field the same, under the names of include/casm.h.
 use Prim.Native.Nat.{ℕ}
 use mathlib.Core.Path.{_≡_}
-use mathlib.Core.Bool.{cond}
+use mathlib.Core.Bool.{Bool, cond}
 use mathlib.Core.List.{List, map}
 use lib.Dec.{eqb}
 use Rattle.c_row.specs.Rows.{channel, editionBy, editionNumber, rowFor}
@@ -21,6 +21,9 @@ use Rattle.layout.specs.declared.answer.Spanned.{Spanned}
 use Rattle.layout.specs.declared.answer.Played.{Played}
 use Rattle.layout.specs.declared.answer.Placed.{Placed}
 use Rattle.layout.specs.declared.answer.Changed.{Changed}
+use Rattle.layout.specs.declared.answer.Which.{Which}
+use Rattle.layout.specs.declared.answer.Which.the-variants.{Neither, BeforeFile, AfterFile, BeforeBody, AfterBody}
+use Rattle.layout.specs.declared.answer.Checked.{Checked}
 use Rattle.c_export.specs.declared.answer.Answer.{Answer}
 use Rattle.c_export.specs.declared.answer.Count.{Count}
 use Rattle.c_export.specs.declared.answer.Length.{Length}
@@ -32,6 +35,7 @@ use Rattle.c_export.specs.declared.answer.Span.{Span}
 use Rattle.c_export.specs.declared.answer.Players.{Players}
 use Rattle.c_export.specs.declared.answer.Note.{Note}
 use Rattle.c_export.specs.declared.answer.Edited.{Edited}
+use Rattle.c_export.specs.declared.answer.Check.{Check}
 
 -- accepted or refused
 abbrev pub answered : Answer → Answered
@@ -104,3 +108,19 @@ editOf c = record { number = c .number; place = c .place; held = rowFor (c .held
 -- what a caller in C asks for: 1 overrides a lock, and any other number does not
 unfoldable pub overrideBy : ℕ → Override
 overrideBy n = cond (eqb n 1) Asked NotAsked
+
+-- what a refusal of a check speaks of, by number
+abbrev pub whichNumber : Which → ℕ
+whichNumber Neither = 0
+whichNumber BeforeFile = 1
+whichNumber AfterFile = 2
+whichNumber BeforeBody = 3
+whichNumber AfterBody = 4
+
+-- 1 for yes
+abbrev pub yesNumber : Bool → ℕ
+yesNumber b = cond b 1 0
+
+-- what came back against what was sent
+abbrev pub checkOf : Checked → Check
+checkOf c = record { number = c .number; place = c .place; which = whichNumber (c .which); yes = yesNumber (c .yes); unlike = c .unlike }

@@ -100,3 +100,14 @@ pub struct Edited {
     pub place: usize,
     pub held: Row,
 }
+
+// Whether what came back is what was sent but for one record: 1 for yes; where it is 0 and the call accepts, the first place at which the two are unlike.
+// On refusal the number of what is refused: 1 the before file, 2 the after file, 3 the before body, 4 the after body.
+#[repr(C)]
+pub struct Check {
+    pub number: u8,
+    pub place: usize,
+    pub which: u8,
+    pub yes: u8,
+    pub unlike: usize,
+}

@@ -2,5 +2,6 @@
 pub mod answer;
 pub mod asking;
 pub mod changing;
+pub mod checking;
 pub mod reading;
 pub mod tables;

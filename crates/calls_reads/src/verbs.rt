@@ -1,10 +1,13 @@
 // A line whose verb reads, by its verb.
 use crate::asks::plays;
 use crate::asks::voice;
+use crate::checks;
 use crate::finds;
 use calls_lists::salvage;
 use script_asked::BODY;
 use script_asked::CHANNEL;
+use script_asked::CHECKED;
+use script_asked::CHECKEDFILE;
 use script_asked::FIND;
 use script_asked::PART;
 use script_asked::PLAYS;
@@ -34,6 +37,8 @@ pub fn answer(
         SALVAGE => salvage(body, one, out, used),
         PLAYS => plays(body, name, byte(one), byte(two), out, used),
         VOICE => voice(body, one, byte(two), out, used),
+        CHECKED => checks::bodies(body, name, one, byte(two), out, used),
+        CHECKEDFILE => checks::files(body, name, one, byte(two), out, used),
         _ => put_bad(out, used),
     }
 }

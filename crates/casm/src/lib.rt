@@ -1,5 +1,6 @@
-// The public face: every call of document 01. A call takes every input; what it promises is one definition of the layout.
+// The public face: every call of documents 01 and 02. A call takes every input; what it promises is one definition of the layout.
 pub mod bytes;
+pub mod checking;
 pub mod editing;
 pub mod field;
 pub mod list;

@@ -16,6 +16,8 @@ use Rattle.casm.proofs.editing.edit_record.Met as edit-record
 use Rattle.casm.proofs.field.set_field.Met as set-field
 use Rattle.casm.proofs.field.set_in_place.Met as set-in-place
 use Rattle.casm.proofs.list.list_salvage.Met as list-salvage
+use Rattle.casm.proofs.checking.check_bodies.Met as check-bodies
+use Rattle.casm.proofs.checking.check_files.Met as check-files
 use Rattle.casm.proofs.bytes.record_of.Met as record-of
 use Rattle.casm.proofs.bytes.edition_of.Met as edition-of
 use Rattle.casm.proofs.bytes.bytes_of.Met as bytes-of
@@ -41,6 +43,8 @@ every-call-ends =
       set-field-ends = set-field.met;
       set-in-place-ends = set-in-place.met;
       list-salvage-ends = list-salvage.met;
+      check-bodies-ends = check-bodies.met;
+      check-files-ends = check-files.met;
       record-of-ends = record-of.met;
       edition-of-ends = edition-of.met;
       bytes-of-ends = bytes-of.met;

@@ -1,4 +1,9 @@
 -- Demand 1 of the calls for C: each by the proof of its function, and by the laws of the call of the face beside it.
+use Prim.Native.Nat.{ℕ}
+use mathlib.Core.Path.{_≡_, refl, sym, ap, subst}
+use Rattle.layout.specs.declared.answer.Which.{Which}
+use Rattle.layout.specs.declared.answer.Checked.{Checked}
+use Rattle.layout.specs.Check.{Verdict, bodiesChecked, filesChecked, checked}
 use Rattle.c_export.proofs.reading.casm_find.Met as casm-find
 use Rattle.c_export.proofs.reading.casm_body.Met as casm-body
 use Rattle.c_export.proofs.reading.casm_part.Met as casm-part
@@ -8,19 +13,25 @@ use Rattle.c_export.proofs.reading.casm_salvage.Met as casm-salvage
 use Rattle.c_export.proofs.asking.casm_plays.Met as casm-plays
 use Rattle.c_export.proofs.asking.casm_voice.Met as casm-voice
 use Rattle.c_export.proofs.asking.casm_place.Met as casm-place
+use Rattle.c_export.proofs.checking.casm_check.Met as casm-check
+use Rattle.c_export.proofs.checking.casm_check_files.Met as casm-check-files
 use Rattle.c_export.proofs.changing.casm_edit.Met as casm-edit
 use Rattle.c_export.proofs.changing.casm_field.Met as casm-field
 use Rattle.c_export.proofs.tables.casm_write.Met as casm-write
 use Rattle.c_export.proofs.tables.casm_records.Met as casm-records
 use Rattle.c_row.specs.Rows.{recorded}
 use Rattle.c_row.specs.Flat.{tableOf}
-use Rattle.c_export.specs.Crossing.{answered, asCounted, asMeasured, asLocated, asNamed, asGrouped, asChannelled, asSpanned, asPlayed, asPlaced, overrideBy}
+use Rattle.c_export.specs.Crossing.{answered, asCounted, asMeasured, asLocated, asNamed, asGrouped, asChannelled, asSpanned, asPlayed, asPlaced, overrideBy, yesNumber, checkOf}
 use Rattle.law_refusals.proofs.Calls.{casm-given, body-given, group-given, part-given, channel-given, voice-given, players-given, note-given}
 use Rattle.law_refusals.proofs.Changes.{write-given, edit-given, salvage-given}
 use Rattle.law_refusals.proofs.Kept.{buffer-kept, body-kept, list-kept}
 use Rattle.law_refusals.proofs.Nothing.{casm-nothing, body-nothing, part-nothing, channel-nothing, voice-nothing, note-nothing}
 use Rattle.law_crossing.proofs.Refused.{group-crossed-nothing, players-nobody, field-crossed-given, field-crossed-kept, rows-given, rows-kept}
-use Rattle.demands.specs.ForC.{EveryCCallEnds, FindRefuses, BodyRefuses, PartRefuses, GroupRefuses, ChannelRefuses, SalvageRefuses, PlaysRefuses, VoiceRefuses, PlaceRefuses, EditRefuses, FieldRefuses, WriteRefuses, RecordsRefuse}
+use Rattle.law_checked.specs.Refused.{BodiesRefused, FilesRefused, GivenOf}
+use Rattle.law_checked.proofs.Answered.{says-nothing}
+use Rattle.law_checked.proofs.RefusedExact.{bodies-refused, files-refused}
+use Rattle.c_export.specs.declared.answer.Check.{Check}
+use Rattle.demands.specs.ForC.{EveryCCallEnds, FindRefuses, BodyRefuses, PartRefuses, GroupRefuses, ChannelRefuses, SalvageRefuses, PlaysRefuses, VoiceRefuses, PlaceRefuses, EditRefuses, FieldRefuses, WriteRefuses, RecordsRefuse, RefusingOf, CheckRefuses, CheckFilesRefuses}
 
 pub every-c-call-ends : {M : Type 1} → EveryCCallEnds M
 every-c-call-ends =
@@ -34,6 +45,8 @@ every-c-call-ends =
       casm-plays-ends = casm-plays.met;
       casm-voice-ends = casm-voice.met;
       casm-place-ends = casm-place.met;
+      casm-check-ends = casm-check.met;
+      casm-check-files-ends = casm-check-files.met;
       casm-edit-ends = casm-edit.met;
       casm-field-ends = casm-field.met;
       casm-write-ends = casm-write.met;
@@ -81,3 +94,21 @@ write-refuses text flat count before r after p =
 pub records-refuse : RecordsRefuse
 records-refuse body group before r after p =
     record { given = rows-given body group before (asCounted r) after p; nothing = rows-kept body group before (asCounted r) after p }
+
+-- a verdict whose refusals have a condition, as it crosses
+crossed : (P : Which → ℕ → ℕ → Type 0) (v : Verdict) → GivenOf P (checked v .which) (checked v .number) (checked v .place) → RefusingOf P (checkOf (checked v))
+crossed P v given =
+    record {
+      which = checked v .which;
+      named = refl;
+      given = given;
+      nothing = λ z. let n = says-nothing v (checked v) refl z in (ap yesNumber (n .0), n .1);
+    }
+
+pub check-refuses : CheckRefuses
+check-refuses before after group source r p =
+    subst (RefusingOf (BodiesRefused 0 0 before after group source)) (sym p) (crossed (BodiesRefused 0 0 before after group source) (bodiesChecked before after group source) (bodies-refused before after group source))
+
+pub check-files-refuses : CheckFilesRefuses
+check-files-refuses before after group source r p =
+    subst (RefusingOf (FilesRefused before after group source)) (sym p) (crossed (FilesRefused before after group source) (filesChecked before after group source) (files-refused before after group source))

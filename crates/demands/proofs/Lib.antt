@@ -13,3 +13,4 @@ pub mod Chords
 pub mod Calls
 pub mod ForC
 pub mod ByValue
+pub mod Checking

@@ -17,6 +17,8 @@ use Rattle.casm.proofs.editing.edit_record.Statement as edit-record
 use Rattle.casm.proofs.field.set_field.Statement as set-field
 use Rattle.casm.proofs.field.set_in_place.Statement as set-in-place
 use Rattle.casm.proofs.list.list_salvage.Statement as list-salvage
+use Rattle.casm.proofs.checking.check_bodies.Statement as check-bodies
+use Rattle.casm.proofs.checking.check_files.Statement as check-files
 use Rattle.casm.proofs.bytes.record_of.Statement as record-of
 use Rattle.casm.proofs.bytes.edition_of.Statement as edition-of
 use Rattle.casm.proofs.bytes.bytes_of.Statement as bytes-of
@@ -40,6 +42,8 @@ pub record EveryCallEnds (M : Type 1) : Type 2 where
   pub set-field-ends : set-field.statement M
   pub set-in-place-ends : set-in-place.statement M
   pub list-salvage-ends : list-salvage.statement M
+  pub check-bodies-ends : check-bodies.statement M
+  pub check-files-ends : check-files.statement M
   pub record-of-ends : record-of.statement M
   pub edition-of-ends : edition-of.statement M
   pub bytes-of-ends : bytes-of.statement M

@@ -5,7 +5,9 @@ use mathlib.Core.Path.{_≡_}
 use mathlib.Core.List.{List}
 use lib.ListN.{length, replicate}
 use Rattle.layout.specs.declared.edition.Edition.the-variants.{First}
+use Rattle.layout.specs.declared.answer.Which.{Which}
 use Rattle.layout.specs.Screen.{fieldSet, changed}
+use Rattle.layout.specs.Check.{bodiesChecked, filesChecked, checked}
 use Rattle.layout.specs.Promises.{CasmFound, BodyRead, GroupFound, PartFound, ChannelFound, VoiceFound, PlaysTold, NotePlaced, GroupWritten, RecordEdited, Salvaged}
 use Rattle.c_row.specs.declared.row.Row.{Row}
 use Rattle.c_row.specs.Rows.{recorded, rowFor}
@@ -21,7 +23,8 @@ use Rattle.c_export.specs.declared.answer.Span.{Span}
 use Rattle.c_export.specs.declared.answer.Players.{Players}
 use Rattle.c_export.specs.declared.answer.Note.{Note}
 use Rattle.c_export.specs.declared.answer.Edited.{Edited}
-use Rattle.c_export.specs.Crossing.{answered, asCounted, asMeasured, asLocated, asNamed, asStanding, GroupCrossed, asChannelled, asSpanned, asPlayed, asPlaced, editOf, overrideBy}
+use Rattle.c_export.specs.declared.answer.Check.{Check}
+use Rattle.c_export.specs.Crossing.{answered, asCounted, asMeasured, asLocated, asNamed, asStanding, GroupCrossed, asChannelled, asSpanned, asPlayed, asPlaced, editOf, overrideBy, whichNumber, checkOf}
 use Rattle.c_export.proofs.reading.casm_find.Statement as casm-find
 use Rattle.c_export.proofs.reading.casm_body.Statement as casm-body
 use Rattle.c_export.proofs.reading.casm_part.Statement as casm-part
@@ -31,6 +34,8 @@ use Rattle.c_export.proofs.reading.casm_salvage.Statement as casm-salvage
 use Rattle.c_export.proofs.asking.casm_plays.Statement as casm-plays
 use Rattle.c_export.proofs.asking.casm_voice.Statement as casm-voice
 use Rattle.c_export.proofs.asking.casm_place.Statement as casm-place
+use Rattle.c_export.proofs.checking.casm_check.Statement as casm-check
+use Rattle.c_export.proofs.checking.casm_check_files.Statement as casm-check-files
 use Rattle.c_export.proofs.changing.casm_edit.Statement as casm-edit
 use Rattle.c_export.proofs.changing.casm_field.Statement as casm-field
 use Rattle.c_export.proofs.tables.casm_write.Statement as casm-write
@@ -40,6 +45,7 @@ use Rattle.law_refusals.specs.File.{FileRefused}
 use Rattle.law_refusals.specs.Body.{BodyRefused}
 use Rattle.law_refusals.specs.After.{GroupAsked, RecordsAsked, PartAsked, PlayersAsked, ChannelAsked, EditAsked}
 use Rattle.law_refusals.specs.Records.{PlaceRefused, WriteRefused, FieldRefused, SalvageRefused}
+use Rattle.law_checked.specs.Refused.{BodiesRefused, FilesRefused, GivenOf}
 
 -- "every call takes every input and ends. Callers need check nothing first"
 pub record EveryCCallEnds (M : Type 1) : Type 2 where
@@ -52,6 +58,8 @@ pub record EveryCCallEnds (M : Type 1) : Type 2 where
   pub casm-plays-ends : casm-plays.statement M
   pub casm-voice-ends : casm-voice.statement M
   pub casm-place-ends : casm-place.statement M
+  pub casm-check-ends : casm-check.statement M
+  pub casm-check-files-ends : casm-check-files.statement M
   pub casm-edit-ends : casm-edit.statement M
   pub casm-field-ends : casm-field.statement M
   pub casm-write-ends : casm-write.statement M
@@ -134,3 +142,20 @@ abbrev pub RecordsRefuse : Type 0
 RecordsRefuse =
     (body : List ℕ) (group : ℕ) (before : List ℕ) (r : Count) (after : List ℕ) → RowsRead body group before (asCounted r) after
     → Refusing (RecordsAsked body group (lentRows (length before))) (r .number) (r .place) ((after ≡ before) × (r .count ≡ 0))
+
+-- what is refused crosses as a number; the rest of the answer is then 0
+pub record RefusingOf (Condition : Which → ℕ → ℕ → Type 0) (r : Check) : Type 0 where
+  pub which : Which
+  pub named : r .which ≡ whichNumber which
+  pub given : GivenOf Condition which (r .number) (r .place)
+  pub nothing : (r .number ≡ 0 → ⊥) → (r .yes ≡ 0) × (r .unlike ≡ 0)
+
+-- casm_check
+abbrev pub CheckRefuses : Type 0
+CheckRefuses =
+    (before after : List ℕ) (group source : ℕ) (r : Check) → r ≡ checkOf (checked (bodiesChecked before after group source)) → RefusingOf (BodiesRefused 0 0 before after group source) r
+
+-- casm_check_files
+abbrev pub CheckFilesRefuses : Type 0
+CheckFilesRefuses =
+    (before after : List ℕ) (group source : ℕ) (r : Check) → r ≡ checkOf (checked (filesChecked before after group source)) → RefusingOf (FilesRefused before after group source) r

@@ -13,3 +13,4 @@ pub mod Chords
 pub mod Positions
 pub mod Editions
 pub mod ReadOnly
+pub mod Checking

@@ -14,6 +14,7 @@ use Rattle.layout.specs.declared.answer.Channelled.{Channelled}
 use Rattle.layout.specs.declared.answer.Spanned.{Spanned}
 use Rattle.layout.specs.declared.answer.Placed.{Placed}
 use Rattle.layout.specs.Screen.{fieldSet, changed}
+use Rattle.layout.specs.Check.{bodiesChecked, filesChecked, checked}
 use Rattle.layout.specs.Promises.{CasmFound, BodyRead, GroupFound, PartFound, ChannelFound, VoiceFound, PlaysTold, NotePlaced, RecordsRead, GroupWritten, RecordEdited, FieldSet, Salvaged}
 use Rattle.c_row.specs.declared.row.Row.{Row}
 use Rattle.c_row.specs.Rows.{recorded}
@@ -29,7 +30,8 @@ use Rattle.c_export.specs.declared.answer.Span.{Span}
 use Rattle.c_export.specs.declared.answer.Players.{Players}
 use Rattle.c_export.specs.declared.answer.Note.{Note}
 use Rattle.c_export.specs.declared.answer.Edited.{Edited}
-use Rattle.c_export.specs.Crossing.{answered, asCounted, asMeasured, asLocated, asNamed, asGrouped, asChannelled, asSpanned, asPlayed, asPlaced, editOf, editionTold, GroupCrossed, overrideBy}
+use Rattle.c_export.specs.declared.answer.Check.{Check}
+use Rattle.c_export.specs.Crossing.{answered, asCounted, asMeasured, asLocated, asNamed, asGrouped, asChannelled, asSpanned, asPlayed, asPlaced, editOf, editionTold, GroupCrossed, overrideBy, checkOf}
 use Rattle.casm_by_value.specs.declared.Filled.{Filled}
 use Rattle.law_salvage.specs.Determined.{Determines, DeterminesBoth}
 use Rattle.law_salvage.proofs.Determined as face
@@ -112,6 +114,12 @@ casm-plays body part root type = crossing-determines asPlayed players players-ba
 
 pub casm-place : (row : Row) (root n : ℕ) → Determines (λ (r : Note). NotePlaced (recorded row) root n (asPlaced r))
 casm-place row root n = crossing-determines asPlaced note (λ x. refl) (NotePlaced (recorded row) root n) (face.note-placed (recorded row) root n)
+
+pub casm-check : (before after : List ℕ) (group source : ℕ) → Determines (λ (r : Check). r ≡ checkOf (checked (bodiesChecked before after group source)))
+casm-check before after group source x y p q = p ∙ sym q
+
+pub casm-check-files : (before after : List ℕ) (group source : ℕ) → Determines (λ (r : Check). r ≡ checkOf (checked (filesChecked before after group source)))
+casm-check-files before after group source x y p q = p ∙ sym q
 
 pub casm-field : (row : Row) (index value : ℕ) → Determines (λ (r : Edited). r ≡ editOf (changed (recorded row) (fieldSet (recorded row) index value)))
 casm-field row index value x y p q = p ∙ sym q

@@ -1,6 +1,6 @@
 -- The text of a body, and of a file: what the calls answer is what the definition lists.
 use Prim.Native.Nat.{ℕ, _+_, _-_, _*_, _≤_, _<_}
-use mathlib.Core.Path.{_≡_, refl, sym, ap, _∙_}
+use mathlib.Core.Path.{_≡_, sym, ap, _∙_}
 use mathlib.Core.List.{List, _++_, flatMap}
 use native.Mathlib.Omega.{arith}
 use lib.ListN.{length, take, drop, length-append, length-drop}
@@ -8,14 +8,14 @@ use lib.Seq.{length-take-le}
 use borrow.Author.Tests.{lt-ltb, le-ltb}
 use Rattle.layout.specs.declared.answer.Counted.{Counted}
 use Rattle.layout.specs.declared.answer.Located.{Located}
-use Rattle.layout.specs.Answers.{Answer, refused, granted, numberOf, placeOf, valueOr, countedAll, retold, lentAfter, Span}
+use Rattle.layout.specs.Answers.{refused, granted, numberOf, placeOf, valueOr, countedAll, retold, lentAfter, Span}
 use Rattle.layout.specs.Style.{casmFound, located}
 use Rattle.layout.specs.Salvage.{Entry, salvage, listNumbers, salvaged}
 use Rattle.layout.specs.Promises.{Salvaged}
 use Rattle.layout.specs.Listing.{refusedLine, casmLine, entryLine, endLine, textListed, bodyIn, textFound, listText, FileListed}
 use Rattle.layout.proofs.Replaced.{replaced-start}
 use Rattle.io.specs.Counts.{Counts}
-use Rattle.read_style.proofs.PlaceLaws.{Standing, casm-refuses, casm-stands}
+use Rattle.read_style.proofs.PlaceLaws.{Standing, casm-stands, casm-none, casm-there}
 use Rattle.read_salvage.proofs.Room.{numbers-length}
 use Rattle.read_salvage.proofs.Bounds.{room-for-any-body}
 use Rattle.list_spell.specs.Puts.{Put}
@@ -74,17 +74,6 @@ used-counts file before used after p =
     let l : used ≤ length after = omega (arith, p .measure, ap length (p .text), length-append (listText file) (drop used before)) in
     (l, sym (length-take-le used after l))
 
--- what a refusal and an acceptance say of the answer
-told-refused : (a : Answer Span) (r : Located) → r ≡ located a → (r .number ≡ 0 → ⊥) → a ≡ refused (r .number) (r .place)
-unfolding located numberOf placeOf valueOr
-told-refused (refused number place) r e z = rw e
-told-refused (granted x) r e z = absurd (z (rw e))
-
-told-granted : (a : Answer Span) (r : Located) → r ≡ located a → r .number ≡ 0 → ((number place : ℕ) → a ≡ refused number place → 0 < number) → a ≡ granted (record { start = r .tag; size = r .length })
-unfolding located numberOf placeOf valueOr
-told-granted (refused number place) r e z f = absurd (let y : r .number ≡ number = rw e in omega (arith, f number place refl))
-told-granted (granted x) r e z f = rw e
-
 module _ (file : List ℕ) where
   pub text-over : 65536 < length file → listText file ≡ refusedLine 3 0
   unfolding listText
@@ -97,7 +86,7 @@ module _ (file : List ℕ) where
 
     module _ (z : r .number ≡ 0 → ⊥) where
       found-none : casmFound file ≡ refused (r .number) (r .place)
-      found-none = told-refused (casmFound file) r e z
+      found-none = casm-none file r e z
 
       pub text-refused : listText file ≡ refusedLine (r .number) (r .place)
       unfolding textFound
@@ -108,7 +97,7 @@ module _ (file : List ℕ) where
       section = record { start = r .tag; size = r .length }
 
       found : casmFound file ≡ granted section
-      found = told-granted (casmFound file) r e z (λ number place q. casm-refuses file number place q .0)
+      found = casm-there file r e z
 
       pub stands : Standing file section
       stands = casm-stands file section found

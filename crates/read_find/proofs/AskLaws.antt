@@ -87,14 +87,22 @@ module _ (s : List ℕ) (g : ℕ) where
   unfolding groupLocated
   group-there-is k x h = let r = finding s (λ _. g) k x (bodyRun s) refl h in rw (← (r .1)) at (r .0)
 
+  pub group-stopped : (a b : ℕ) → groupLocated s g ≡ Refused a b → bodyRun s ≡ Stopped a b
+  unfolding groupLocated
+  group-stopped a b h = refusing s (λ _. g) a b (bodyRun s) h
+
+  pub group-ended : groupLocated s g ≡ Missing → (n : ℕ) × ((bodyRun s ≡ Ended n) × (leb n g ≡ true))
+  unfolding groupLocated
+  group-ended h = missing s (λ _. g) (bodyRun s) h
+
   module _ {A : Type 0} (ask : Answer A) where
     pub of-refused : (a b : ℕ) → groupLocated s g ≡ Refused a b → ofGroup s g ask ≡ refused a b
-    unfolding groupLocated ofGroup afterRun
-    of-refused a b h = rw (refusing s (λ _. g) a b (bodyRun s) h, afterRun)
+    unfolding ofGroup afterRun
+    of-refused a b h = rw (group-stopped a b h, afterRun)
 
     pub of-missing : groupLocated s g ≡ Missing → ofGroup s g ask ≡ refused 16 0
-    unfolding groupLocated ofGroup afterRun
-    of-missing h = let r = missing s (λ _. g) (bodyRun s) h in rw (r .1 .0, afterRun) (rw (r .1 .1))
+    unfolding ofGroup afterRun
+    of-missing h = let r = group-ended h in rw (r .1 .0, afterRun) (rw (r .1 .1))
 
     pub of-found : (x : Standing) → There s g x → ofGroup s g ask ≡ ask
     unfolding ofGroup afterRun

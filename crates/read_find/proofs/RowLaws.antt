@@ -1,7 +1,7 @@
 -- The record of a source channel: one law for each way out of the search, and what each says of every question that is asked of a record.
 use Prim.Native.Nat.{ℕ, _+_, _≤_, _<_}
 use native.Mathlib.Omega.{arith}
-use mathlib.Core.Path.{_≡_, refl, _∙_}
+use mathlib.Core.Path.{_≡_, refl, sym, ap, _∙_}
 use mathlib.Core.Bool.{Bool, true, false, cond}
 use mathlib.Core.List.{List}
 use lib.Dec.{leb}
@@ -34,18 +34,23 @@ module _ (s : List ℕ) (g channel : ℕ) where
   unfolding channelFound sought
   row-missing h = rw (of-missing s g (ofChannel s (standing s g) channel (λ row. granted row)) h)
 
-  module _ (x : Standing) (there : There s g x) (i : ℕ) (e : i ≡ ctabOf (x .edition) s (x .ctabs) (x .records) channel) where
-    asked : channelFound s g channel ≡ cond (leb (x .records) i) (refused 15 0) (granted (rowOf x i))
-    unfolding channelFound ofChannel rowIn
-    asked = of-found s g _ x there ∙ rw (there .stands, e)
+  -- a group that was found is asked for its record
+  pub row-found : (x : Standing) → There s g x → sought (ofChannel s x channel (λ row. granted row)) ≡ sought (channelFound s g channel)
+  unfolding channelFound
+  row-found x there = sym (ap sought (of-found s g _ x there ∙ ap (λ (y : Standing). ofChannel s y channel (λ row. granted row)) (there .stands)))
 
-    pub row-none : x .records ≤ i → No 15 0 ≡ sought (channelFound s g channel)
-    unfolding sought
-    row-none h = let q : channelFound s g channel ≡ refused 15 0 = asked ∙ rw (le-leb (x .records) i h) in rw q
+module _ (s : List ℕ) (x : Standing) (channel i : ℕ) (e : i ≡ ctabOf (x .edition) s (x .ctabs) (x .records) channel) where
+  asked : ofChannel s x channel (λ row. granted row) ≡ cond (leb (x .records) i) (refused 15 0) (granted (rowOf x i))
+  unfolding ofChannel rowIn
+  asked = rw e
 
-    pub row-there : i < x .records → At (x .edition) i (ctabPlace (x .edition) (x .ctabs) i + 8) ≡ sought (channelFound s g channel)
-    unfolding sought
-    row-there h = let q : channelFound s g channel ≡ granted (rowOf x i) = asked ∙ rw (lt-leb (x .records) i h) in rw q
+  pub row-none : x .records ≤ i → No 15 0 ≡ sought (ofChannel s x channel (λ row. granted row))
+  unfolding sought
+  row-none h = let q : ofChannel s x channel (λ row. granted row) ≡ refused 15 0 = asked ∙ rw (le-leb (x .records) i h) in rw q
+
+  pub row-there : i < x .records → At (x .edition) i (ctabPlace (x .edition) (x .ctabs) i + 8) ≡ sought (ofChannel s x channel (λ row. granted row))
+  unfolding sought
+  row-there h = let q : ofChannel s x channel (λ row. granted row) ≡ granted (rowOf x i) = asked ∙ rw (lt-leb (x .records) i h) in rw q
 
 -- ---- what is asked of the record
 

@@ -7,6 +7,7 @@ ghost use Prim.Native.Nat.{_+_, _≤_};
 ghost use lib.ListN.{length, drop};
 ghost use Rattle.layout.specs.Bytes.{word};
 ghost use Rattle.layout.specs.Group.{groupAt};
+ghost use Rattle.layout.specs.Body.{bodyRun};
 ghost use Rattle.layout.specs.Asked.{standingAt};
 ghost use Rattle.layout.specs.declared.turn.Judged.the-variants.{Sound};
 ghost use Rattle.read_met.specs.Before.{Places};
@@ -86,6 +87,17 @@ fn group_numbered<'a>(
         seconds[k],
     );
     Search::Found(k, standing)
+}
+
+// The run of a body's groups, where none of them is asked for.
+pub fn run_body(s: &[u8]) -> Run
+    ensures { λ r. ⌜ r ≡ bodyRun (now (s .entry)) ⌝ }
+{
+    let mut places: [u16; GROUPS] = [0; GROUPS];
+    let mut records: [u8; GROUPS] = [0; GROUPS];
+    let mut seconds: [u8; GROUPS] = [0; GROUPS];
+    let read = read_groups(s, &mut places, &mut records, &mut seconds);
+    read.run
 }
 
 // A group by its number.

@@ -11,7 +11,6 @@ use layout::answer::Grouped;
 use layout::answer::Named;
 use layout::answer::Standing;
 use layout::edition::Edition;
-use layout::limit::GROUPS;
 use layout::record::SourceChannel;
 use layout::refusal::BAD_NUMBER;
 use layout::refusal::NOT_THERE;
@@ -39,12 +38,7 @@ pub fn section_body<'a>(file: &'a [u8], tag: usize, length: usize) -> &'a [u8]
 pub fn read_body(s: &[u8]) -> Counted
     ensures { λ r. ⌜ BodyRead (now (s .entry)) r ⌝ }
 {
-    let mut places: [u16; GROUPS] = [0; GROUPS];
-    let mut records: [u8; GROUPS] = [0; GROUPS];
-    let mut seconds: [u8; GROUPS] = [0; GROUPS];
-    let read = read_body::survey::read_groups(s, &mut places, &mut records, &mut seconds);
-    let run = read.run;
-    match run {
+    match crate::run_body(s) {
         Run::Stopped(number, place) => Counted {
             number: number,
             place: place,

@@ -3,10 +3,12 @@ ghost use mathlib.Core.Path.{_≡_};
 ghost use Prim.Native.Nat.{_≤_};
 ghost use lib.ListN.{length};
 ghost use Rattle.layout.specs.Group.{ctabPlace, ctabOf};
-ghost use Rattle.layout.specs.Asked.{channelFound};
+ghost use Rattle.layout.specs.Answers.{granted};
+ghost use Rattle.layout.specs.Asked.{ofChannel, channelFound};
 ghost use Rattle.read_find.specs.Row.{sought};
 use crate::Search;
 use crate::locate_group;
+use layout::answer::Standing;
 use layout::edition::Edition;
 use layout::record::SourceChannel;
 use layout::refusal::BAD_NUMBER;
@@ -36,6 +38,19 @@ fn find_row(edition: Edition, s: &[u8], p: usize, n: usize, channel: u8) -> usiz
     n
 }
 
+// The record of a source channel in a group that stands so: 15 where the group has no such channel.
+pub fn find_in(s: &[u8], x: Standing, channel: SourceChannel) -> Sought
+    requires { ⌜ ctabPlace (x .edition) (x .ctabs) (x .records) ≤ length (now s) ⌝ }
+    ensures { λ r. ⌜ r ≡ sought (ofChannel (now (s .entry)) x (channel .0) (λ row. granted row)) ⌝ }
+{
+    let edition = x.edition;
+    let row = find_row(edition, s, x.ctabs, x.records, channel.0);
+    if x.records <= row {
+        return Sought::Refused(NOT_THERE, 0);
+    }
+    Sought::At(edition, row, ctab_place(edition, s, x.ctabs, row) + 8)
+}
+
 // The record of a source channel: 16 where the body has no such group, 15 where the group has no such channel.
 pub fn find_record(s: &[u8], group: usize, channel: SourceChannel) -> Sought
     ensures { λ r. ⌜ r ≡ sought (channelFound (now (s .entry)) group (channel .0)) ⌝ }
@@ -43,13 +58,6 @@ pub fn find_record(s: &[u8], group: usize, channel: SourceChannel) -> Sought
     match locate_group(s, group) {
         Search::Refused(number, place) => Sought::Refused(number, place),
         Search::Missing => Sought::Refused(BAD_NUMBER, 0),
-        Search::Found(_, x) => {
-            let edition = x.edition;
-            let row = find_row(edition, s, x.ctabs, x.records, channel.0);
-            if x.records <= row {
-                return Sought::Refused(NOT_THERE, 0);
-            }
-            Sought::At(edition, row, ctab_place(edition, s, x.ctabs, row) + 8)
-        }
+        Search::Found(_, x) => find_in(s, x, channel),
     }
 }

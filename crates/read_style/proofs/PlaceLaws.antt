@@ -8,8 +8,9 @@ use lib.Dec.{ltb, leb, eqb}
 use lib.ListN.{length}
 use borrow.Author.Tests.{ltb-false, leb-false}
 use Rattle.layout.specs.Bytes.{word, tagAt, CASM}
-use Rattle.layout.specs.Answers.{Answer, refused, granted, afterRun, Span}
-use Rattle.layout.specs.Style.{noStyle, sectionPlace, sectionTagged, sectionTurnAt, sectionTurn, sectionsRun, casmAmong, casmFound}
+use Rattle.layout.specs.Answers.{Answer, refused, granted, afterRun, numberOf, placeOf, valueOr, Span}
+use Rattle.layout.specs.Style.{noStyle, sectionPlace, sectionTagged, sectionTurnAt, sectionTurn, sectionsRun, casmAmong, casmFound, located}
+use Rattle.layout.specs.declared.answer.Located.{Located}
 use Rattle.layout.specs.declared.turn.Run.{Run}
 use Rattle.layout.specs.declared.turn.Run.the-variants.{Stopped, Ended}
 use Rattle.layout.specs.declared.turn.Turn.{Turn}
@@ -95,3 +96,21 @@ casm-refuses s number place q = subst (Known s) q (casm-known s)
 
 pub casm-stands : (s : List ℕ) (x : Span) → casmFound s ≡ granted x → Standing s x
 casm-stands s x q = subst (Known s) q (casm-known s)
+
+-- ---- what the number of the call's answer says of it
+
+told-refused : (a : Answer Span) (r : Located) → r ≡ located a → (r .number ≡ 0 → ⊥) → a ≡ refused (r .number) (r .place)
+unfolding located numberOf placeOf valueOr
+told-refused (refused number place) r e z = rw e
+told-refused (granted x) r e z = absurd (z (rw e))
+
+told-granted : (a : Answer Span) (r : Located) → r ≡ located a → r .number ≡ 0 → ((number place : ℕ) → a ≡ refused number place → 0 < number) → a ≡ granted (record { start = r .tag; size = r .length })
+unfolding located numberOf placeOf valueOr
+told-granted (refused number place) r e z f = absurd (let y : r .number ≡ number = rw e in omega (arith, f number place refl))
+told-granted (granted x) r e z f = rw e
+
+pub casm-none : (s : List ℕ) (r : Located) → r ≡ located (casmFound s) → (r .number ≡ 0 → ⊥) → casmFound s ≡ refused (r .number) (r .place)
+casm-none s r e z = told-refused (casmFound s) r e z
+
+pub casm-there : (s : List ℕ) (r : Located) → r ≡ located (casmFound s) → r .number ≡ 0 → casmFound s ≡ granted (record { start = r .tag; size = r .length })
+casm-there s r e z = told-granted (casmFound s) r e z (λ number place q. casm-refuses s number place q .0)

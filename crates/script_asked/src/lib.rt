@@ -25,17 +25,21 @@ pub const CHANNEL: usize = 6;
 
 pub const VOICE: usize = 7;
 
-pub const GROUP: usize = 8;
+pub const CHECKED: usize = 8;
 
-pub const PLACE: usize = 9;
+pub const CHECKEDFILE: usize = 9;
 
-pub const SCREEN: usize = 10;
+pub const GROUP: usize = 10;
 
-pub const WRITE: usize = 11;
+pub const PLACE: usize = 11;
 
-pub const EDIT: usize = 12;
+pub const SCREEN: usize = 12;
 
-// A line's verb; how many bytes its BYTES are, and its NAME; its numbers; and the place behind these words, NONE where one is not what the verb asks for.
+pub const WRITE: usize = 13;
+
+pub const EDIT: usize = 14;
+
+// A line's verb; how many bytes its BYTES are, and its NAME or AFTER; its numbers; and the place behind these words, NONE where one is not what the verb asks for.
 pub struct Asked {
     pub verb: usize,
     pub count: usize,
@@ -51,11 +55,11 @@ struct Worth {
     at: usize,
 }
 
-// The number of the verb that a word is, or 13.
+// The number of the verb that a word is, or 15.
 fn verb_of(word: &[u8]) -> usize {
     position(
         word,
-        b"find body part plays where salvage channel voice group place screen write edit",
+        b"find body part plays where salvage channel voice checked checkedfile group place screen write edit",
     )
 }
 
@@ -103,10 +107,12 @@ fn take_first(line: &[u8], at: usize, verb: usize, room: &mut [u8; ROOM]) -> Wor
     }
 }
 
-// The NAME behind it, which is put into its room, where the verb has one.
+// The NAME behind it, or the AFTER, which is put into its room, where the verb has one.
 fn take_name(line: &[u8], at: usize, verb: usize, name: &mut [u8; ROOM]) -> Worth {
     match verb {
-        PART | PLAYS => taken(line, at, take_bytes(word_at(line, at), name)),
+        PART | PLAYS | CHECKED | CHECKEDFILE => {
+            taken(line, at, take_bytes(word_at(line, at), name))
+        }
         _ => Worth { value: 0, at: at },
     }
 }

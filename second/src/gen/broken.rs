@@ -9,6 +9,7 @@ use crate::gen::spell::{rec, Line};
 fn tokens(verb: &str) -> Vec<String> {
     let record = rec(&plain(3));
     let group = "4353454700000009536465630000000141";
+    let file = "4d546864000000060000000100604d54726b000000004341534d00000000";
     let words: Vec<&str> = match verb {
         "find" | "body" => vec![group],
         "group" => vec![group, "0", "3"],
@@ -17,6 +18,7 @@ fn tokens(verb: &str) -> Vec<String> {
         "where" => vec![group, "0"],
         "plays" => vec![group, "41", "0", "0"],
         "checked" => vec![group, group, "0", "4"],
+        "checkedfile" => vec![file, file, "0", "4"],
         "place" => vec![&record, "0", "60"],
         "write" => vec!["41", "1", "60", &record],
         "edit" => vec![group, "0", "3", &record, "0"],
@@ -120,6 +122,10 @@ fn line_changes(sound: &str) -> Vec<String> {
     ]
 }
 
+fn second_is_bytes(verb: &str) -> bool {
+    matches!(verb, "plays" | "part" | "checked" | "checkedfile")
+}
+
 pub fn broken(verb: &str) -> Vec<Line> {
     let sound = tokens(verb);
     let join = |words: &[String]| format!("{verb} {}", words.join(" "));
@@ -133,7 +139,7 @@ pub fn broken(verb: &str) -> Vec<Line> {
         };
         if word.contains(':') {
             records(word).into_iter().for_each(&mut with);
-        } else if number == 0 || (matches!(verb, "plays" | "part" | "checked") && number == 1) {
+        } else if number == 0 || (number == 1 && second_is_bytes(verb)) {
             BYTES.iter().for_each(|token| with(token.to_string()));
         } else {
             NUMBERS.iter().for_each(|token| with(token.to_string()));

@@ -5,7 +5,7 @@ use crate::body::read_body;
 use crate::bytes::CTB2;
 use crate::edition::Edition;
 use crate::gen::broken::OVERRIDES;
-use crate::gen::checks::{somehow_after, Ask};
+use crate::gen::checks::{somehow_after, Ask, Pair};
 use crate::gen::chords::{some_chord, some_part};
 use crate::gen::cntts::{at_position, with_cntt};
 use crate::gen::ctb2::{self, SETS, TABLE_BOUNDS};
@@ -14,6 +14,7 @@ use crate::gen::ctb2_faults;
 use crate::gen::dice::Dice;
 use crate::gen::draft::{body_bytes, Draft};
 use crate::gen::faults::{further, principal, Fault, GREAT_LENGTHS};
+use crate::gen::file_checks::somehow_around;
 use crate::gen::locks::{some_lock, some_override};
 use crate::gen::lookups::every_record;
 use crate::gen::narrow;
@@ -84,6 +85,7 @@ impl Mixture {
             "where" => self.place_of_group(),
             "channel" => self.channel(),
             "checked" => self.checked(),
+            "checkedfile" => self.checkedfile(),
             _ => self.salvage(),
         }
         .into_bytes();
@@ -546,8 +548,32 @@ impl Mixture {
         format!("screen {} {index} {value}", rec(&record))
     }
 
-    /// Two bodies of which one mostly came of the other, at times the wrong way round.
     fn checked(&mut self) -> String {
+        let bodies = self.bodies_to_check();
+        self.check_line("checked", &bodies)
+    }
+
+    /// Two files around two such bodies; at times bytes of the one or the other are changed.
+    fn checkedfile(&mut self) -> String {
+        let bodies = self.bodies_to_check();
+        let mut files = somehow_around(&mut self.dice, &bodies);
+        match self.dice.below(20) {
+            0 => self.change(&mut files.before),
+            1 => self.change(&mut files.after),
+            _ => (),
+        }
+        self.check_line("checkedfile", &files)
+    }
+
+    fn check_line(&mut self, verb: &str, pair: &Pair) -> String {
+        let Ask { number, channel } = pair.asked;
+        let before = self.spelled(&pair.before);
+        let after = self.spelled(&pair.after);
+        format!("{verb} {before} {after} {number} {channel}")
+    }
+
+    /// Two bodies of which one mostly came of the other, at times the wrong way round.
+    fn bodies_to_check(&mut self) -> Pair {
         let mut before = self.asked_body();
         let (mut number, channels) = self.some_group(&before);
         let mut channel = self.some_channel(&channels);
@@ -557,6 +583,7 @@ impl Mixture {
         }
         let mut after = match self.dice.below(100) {
             0..=5 => self.asked_body(),
+            16..=21 => self.body(),
             6..=15 => {
                 let mut bytes = before.clone();
                 self.change(&mut bytes);
@@ -567,9 +594,11 @@ impl Mixture {
         if self.dice.percent(8) {
             std::mem::swap(&mut before, &mut after);
         }
-        let before = self.spelled(&before);
-        let after = self.spelled(&after);
-        format!("checked {before} {after} {number} {channel}")
+        Pair {
+            before,
+            after,
+            asked: Ask { number, channel },
+        }
     }
 
     /// Sound groups, damaged ones and loose bytes in a row.

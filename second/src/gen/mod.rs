@@ -17,6 +17,8 @@ pub mod draft;
 pub mod edits;
 pub mod families;
 pub mod faults;
+pub mod file_checks;
+pub mod file_drafts;
 pub mod files;
 pub mod locks;
 pub mod lookups;
@@ -60,9 +62,14 @@ impl Script {
             .collect();
         let mut dice = Dice::new(seed);
         let mut catalogues = catalogues(&mut dice);
-        if verbs.contains(&"checked") {
-            let lines = checks::checked(&mut dice.aside());
-            catalogues.push(("checked", mixed(lines, broken::broken("checked"))));
+        let only_named = ONLY_NAMED.into_iter();
+        for verb in only_named.filter(|verb| verbs.contains(verb)) {
+            let mut aside = dice.aside();
+            let lines = match verb {
+                "checked" => checks::checked(&mut aside),
+                _ => file_checks::checkedfile(&mut aside),
+            };
+            catalogues.push((verb, mixed(lines, broken::broken(verb))));
         }
         let mut families = families(&mut dice);
         let keep = |lists: &mut Vec<(&'static str, Vec<Line>)>| -> Vec<Vec<Line>> {
@@ -194,20 +201,20 @@ fn questions(body: &[u8]) -> Vec<(&'static str, String)> {
     ]
 }
 
-/// The first lines of all lists, then the second ones, and so on.
-fn in_turn(lists: Vec<Vec<Line>>) -> Vec<Line> {
-    let mut lists: Vec<std::vec::IntoIter<Line>> = lists.into_iter().map(Vec::into_iter).collect();
-    let mut lines = Vec::new();
+/// The first of all lists, then the second of each, and so on.
+fn in_turn<T>(lists: Vec<Vec<T>>) -> Vec<T> {
+    let mut lists: Vec<std::vec::IntoIter<T>> = lists.into_iter().map(Vec::into_iter).collect();
+    let mut all = Vec::new();
     while !lists.is_empty() {
         lists.retain_mut(|list| match list.next() {
-            Some(line) => {
-                lines.push(line);
+            Some(next) => {
+                all.push(next);
                 true
             }
             None => false,
         });
     }
-    lines
+    all
 }
 
 /// What a line was answered, for the table.

@@ -6,10 +6,10 @@ use Rattle.read_find.proofs.look.read_body.Statement.{statement}
 use Rattle.read_find.proofs.look.read_body.Tie as tie
 
 returns : tie.Need-returns
-returns c = body-refused _ _ _ (sym (c .before .before .before .read-groups .ensures .run) ∙ c .before .run .given .1)
+returns c = body-refused _ _ _ (sym (c .before .before .before .run-body .ensures) ∙ c .before .number .given .1)
 
 returns-2 : tie.Need-returns-2
-returns-2 c = body-counted _ _ (sym (c .before .before .before .read-groups .ensures .run) ∙ c .before .run2 .given .1)
+returns-2 c = body-counted _ _ (sym (c .before .before .before .run-body .ensures) ∙ c .before .n .given .1)
 
 pub read-body-spec : {M : Type 1} → statement M
 read-body-spec =

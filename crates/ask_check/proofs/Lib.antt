@@ -1,0 +1,4 @@
+pub mod Comparing
+pub mod Finding
+pub mod Verdicts
+pub mod Answers

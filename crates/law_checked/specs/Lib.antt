@@ -1,0 +1,4 @@
+pub mod Alike
+pub mod Others
+pub mod Files
+pub mod Refused

@@ -1,0 +1,1 @@
+// Theorems about checking what other editors return (document 02, §13).
