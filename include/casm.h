@@ -16,7 +16,7 @@
  *       or a Cntt not of 2                          18  the positions of the Cntts are wrong
  *    8  a rule on an Sdec's text is broken          21  another edition: a group than the first with records, a record to
  *    9  a byte out of its range                         be written than the first, or an edit's than the one in the body
- *   10  a channel's second Ctab, Ctb2 or Cntt      22  read only: the record is locked
+ *   10  a channel's second Ctab, Ctb2 or Cntt       22  read only: the record is locked
  *
  * What a caller owes, since C checks none of it: a pointer and its length name memory that is there for the whole call, that nothing
  * else writes meanwhile and, where it is lent to be written (no const), that overlaps nothing else that is lent to the same call.
