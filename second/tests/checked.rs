@@ -4,62 +4,18 @@
 
 mod common;
 
-use common::{m, n, plain_record, second_record};
+use common::checked_bodies::{
+    body, nine_and_seven, no, one, told_by, two, with, with_cntts, EDITIONS,
+};
+use common::{m, n};
 use second::body::read_body;
 use second::calls::answer;
 use second::gen::cntts::{at_position, with_cntt};
 use second::record::Record;
-use second::script::show_bytes;
 use second::write::group_bytes;
 
-/// A record of an edition and a channel.
-fn one(channel: u8) -> Record {
-    let mut record = plain_record();
-    record[0] = channel;
-    record
-}
-
-fn two(channel: u8) -> Record {
-    let mut record = second_record();
-    record[0] = channel;
-    record
-}
-
-type Of = fn(u8) -> Record;
-
-/// The records of each edition and the bytes of one in a body.
-const EDITIONS: [(Of, usize); 2] = [(one, 27), (two, 47)];
-
-/// Group "A" with channels 5 and 2, a group "B" without records, then "C" with channel 5.
-fn body(of: Of) -> Vec<u8> {
-    [
-        group_bytes(b"A", &[of(5), of(2)]),
-        group_bytes(b"B", &[]),
-        group_bytes(b"C", &[of(5)]),
-    ]
-    .concat()
-}
-
-/// Group "A" with channels 5 and 2 and a Cntt of each: these at 87 and 97, 107 bytes in all.
-fn with_cntts() -> Vec<u8> {
-    let of = |channel, position| at_position(with_cntt(one(channel), Some(0x84)), position);
-    let body = group_bytes(b"A", &[of(5, 1), of(2, 2)]);
-    assert_eq!(body.len(), 107);
-    body
-}
-
-/// A body with some bytes set.
-fn with(body: &[u8], changes: &[(usize, u8)]) -> Vec<u8> {
-    let mut bytes = body.to_vec();
-    for &(place, value) in changes {
-        bytes[place] = value;
-    }
-    bytes
-}
-
 fn told(before: &[u8], after: &[u8], group: u32, channel: u8) -> String {
-    let (before, after) = (show_bytes(before), show_bytes(after));
-    answer(format!("checked {before} {after} {group} {channel}").as_bytes())
+    told_by("checked", before, after, group, channel)
 }
 
 /// "An unchanged body too": yes for each record of it.
@@ -89,7 +45,7 @@ fn any_byte_of_the_record_may_change() {
                     continue;
                 }
                 assert_eq!(told(&before, &after, 0, 5), "ok yes");
-                let expected = format!("ok no {}", 25 + index);
+                let expected = no(25 + index);
                 assert_eq!(told(&before, &after, 0, 2), expected);
                 assert_eq!(told(&before, &after, 2, 5), expected);
                 changed[index] += 1;
@@ -116,7 +72,7 @@ fn the_record_is_looked_for_in_the_before_body() {
         assert_eq!(told(&after, &before, 0, 5), "refused 15 0 before");
         let second = 25 + size + 8;
         let turned = with(&before, &[(25, 2), (second, 5)]);
-        assert_eq!(told(&before, &turned, 0, 5), format!("ok no {second}"));
+        assert_eq!(told(&before, &turned, 0, 5), no(second));
         assert_eq!(told(&before, &turned, 0, 2), "ok no 25");
     }
 }
@@ -130,15 +86,15 @@ fn a_byte_outside_the_record_is_no() {
         let name_b = second + size + 16;
         for (place, value) in [(16, b'a'), (second, 9), (second + 25, 1), (name_b, b'x')] {
             let after = with(&before, &[(place, value)]);
-            assert_eq!(told(&before, &after, 0, 5), format!("ok no {place}"));
-            assert_eq!(told(&after, &before, 0, 5), format!("ok no {place}"));
+            assert_eq!(told(&before, &after, 0, 5), no(place));
+            assert_eq!(told(&after, &before, 0, 5), no(place));
         }
     }
     let before = with_cntts();
     for (place, value) in [(96, 0x85), (106, 0x06)] {
         let after = with(&before, &[(place, value)]);
-        assert_eq!(told(&before, &after, 0, 5), format!("ok no {place}"));
-        assert_eq!(told(&before, &after, 0, 2), format!("ok no {place}"));
+        assert_eq!(told(&before, &after, 0, 5), no(place));
+        assert_eq!(told(&before, &after, 0, 2), no(place));
     }
     let channels = with(&before, &[(95, 2), (105, 5)]);
     assert_eq!(told(&before, &channels, 0, 5), "ok no 95");
@@ -152,16 +108,10 @@ fn a_byte_outside_the_record_is_no() {
     assert_eq!(told(&last, &after, 0, 2), "ok yes");
 }
 
-/// Tag and length of the chunk are outside the record. In a group "A" 9 Ctabs, or 7 and 7 Cntts,
-/// are 332 bytes; the eighth chunk begins at 262, "Ctab" or "Cntt".
+/// Tag and length of the chunk are outside the record.
 #[test]
 fn the_chunks_tag_is_outside_the_record() {
-    let nine: Vec<Record> = (0..9).map(one).collect();
-    let seven: Vec<Record> = (0..7)
-        .map(|channel| at_position(with_cntt(one(channel), Some(0x84)), channel + 1))
-        .collect();
-    let (nine, seven) = (group_bytes(b"A", &nine), group_bytes(b"A", &seven));
-    assert_eq!((nine.len(), seven.len()), (332, 332));
+    let [nine, seven] = nine_and_seven();
     for channel in [0, 6, 7, 8] {
         assert_eq!(told(&nine, &seven, 0, channel), "ok no 263");
     }
@@ -192,11 +142,11 @@ fn bodies_of_other_lengths_are_no() {
         let end = 25 + size;
         assert_eq!(short.len(), end);
         let long = [short.clone(), m(), n()].concat();
-        assert_eq!(told(&short, &long, 0, 5), format!("ok no {end}"));
-        assert_eq!(told(&long, &short, 0, 5), format!("ok no {end}"));
+        assert_eq!(told(&short, &long, 0, 5), no(end));
+        assert_eq!(told(&long, &short, 0, 5), no(end));
         let longer = [long.clone(), group_bytes(b"D", &[])].concat();
-        assert_eq!(told(&long, &longer, 0, 5), format!("ok no {}", end + 44));
-        assert_eq!(told(&longer, &long, 0, 5), format!("ok no {}", end + 44));
+        assert_eq!(told(&long, &longer, 0, 5), no(end + 44));
+        assert_eq!(told(&longer, &long, 0, 5), no(end + 44));
         assert_eq!(told(&long, &[], 0, 5), "ok no 0");
     }
 }
@@ -214,13 +164,13 @@ fn the_first_place_counts() {
             (vec![(26, b'x'), (name, b'x')], name),
             (vec![(16, b'a'), (26, b'x')], 16),
         ] {
-            let expected = format!("ok no {place}");
+            let expected = no(place);
             assert_eq!(told(&before, &with(&before, &changes), 0, 5), expected);
             assert_eq!(told(&before, &with(&longer, &changes), 0, 5), expected);
             assert_eq!(told(&with(&longer, &changes), &before, 0, 5), expected);
         }
         let inside = with(&longer, &[(26, b'x')]);
-        let expected = format!("ok no {}", end + 22);
+        let expected = no(end + 22);
         assert_eq!(told(&before, &inside, 0, 5), expected);
     }
 }
@@ -283,7 +233,7 @@ fn what_only_the_after_body_has_is_not_there() {
         let more = [before.clone(), group_bytes(b"D", &[of(5)])].concat();
         assert_eq!(told(&before, &more, 3, 5), "refused 16 0 before");
         let end = before.len();
-        assert_eq!(told(&more, &before, 3, 5), format!("ok no {end}"));
+        assert_eq!(told(&more, &before, 3, 5), no(end));
         assert_eq!(told(&before, &before, 1, 5), "refused 15 0 before");
         let filled = [group_bytes(b"B", &[of(5)]), m()].concat();
         let empty = [group_bytes(b"B", &[]), m()].concat();

@@ -178,7 +178,7 @@ fn forms_of_positions() {
 }
 
 /// Lines that break the grammar, whatever their verb.
-const BAD_LINES: [&str; 66] = [
+const BAD_LINES: [&str; 77] = [
     "",
     " ",
     "body",
@@ -239,6 +239,17 @@ const BAD_LINES: [&str; 66] = [
     "checked - 00*1048578 0 0",
     "checked 00*1048578 - 0 0",
     "checked 00*1048577 00*1048578 0 0",
+    "checkedfile - - 0",
+    "checkedfile - - 0 256",
+    "checkedfile - - 4294967296 0",
+    "checkedfile - - 0 0 0",
+    "checkedfile - - 0 0 ",
+    "checkedfile - 0 0 0",
+    "checkedfile 0 - 0 0",
+    "checkedfile - 00*1048578 0 0",
+    "checkedfile 00*1048578 - 0 0",
+    "checkedfiles - - 0 0",
+    "checkedFile - - 0 0",
     "check - - 0 0",
     "Checked - - 0 0",
     "list -",
@@ -311,6 +322,12 @@ fn lines_at_the_edge_of_the_grammar() {
     is("checked - - 4294967295 255", "refused 16 0 before");
     is("checked 00*1048577 00*1048577 0 0", "refused 3 0 before");
     is("checked - 00*1048577 0 0", "refused 3 0 after");
+    is("checkedfile - - 4294967295 255", "refused 1 0 beforefile");
+    is(
+        "checkedfile 00*1048577 00*1048577 0 0",
+        "refused 3 0 beforefile",
+    );
+    is("checkedfile - 00*1048577 0 0", "refused 1 0 beforefile");
     is("body 00*1048577", "refused 3 0");
     is("body 00*1048578", "bad");
 }
@@ -416,6 +433,25 @@ fn one_answer_of_each_verb() {
     is(&format!("checked {hex} - 0 3"), "ok no 0");
     is(&format!("checked {hex} {hex} 0 2"), "refused 15 0 before");
     is(&format!("checked {hex} {hex}00 0 3"), "refused 2 57 after");
+    let start = "4d546864000000060000000100604d54726b000000004341534d";
+    let file = format!("{start}00000039{hex}");
+    is(&format!("checkedfile {file} {file} 0 3"), "ok yes");
+    is(
+        &format!("checkedfile {file} {start}00000000 0 3"),
+        "ok no 29",
+    );
+    is(
+        &format!("checkedfile {file} {file} 1 3"),
+        "refused 16 0 before",
+    );
+    is(
+        &format!("checkedfile {file} {start}00000001+00 0 3"),
+        "refused 2 30 after",
+    );
+    is(
+        &format!("checkedfile {file} {file}00 0 3"),
+        "refused 2 87 afterfile",
+    );
     is(&format!("salvage {hex}00 2"), "ok 2 0,57,0 57,1,6 kept");
     is(&format!("salvage {hex}00 1"), "refused 14 0 kept");
 }

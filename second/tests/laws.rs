@@ -7,12 +7,13 @@ use common::chunks::{edition, groups, names, of_tag, records};
 use common::{entries_of, plain_record};
 use second::body::{read_body, read_group};
 use second::calls::answer;
-use second::check::{check, Checked};
+use second::check::{check, check_files, Checked};
 use second::edit::edit;
 use second::edition::Edition;
 use second::gen::cntts::{at_position, position};
 use second::gen::ctb2;
 use second::gen::dice::Dice;
+use second::gen::draft::StyleDraft;
 use second::gen::positions::shuffle;
 use second::gen::sound;
 use second::lookup::find_channel;
@@ -443,6 +444,12 @@ fn an_edit_is_checked_yes() {
         assert_eq!(check(&before, &after, group, channel), Ok(Checked::Yes));
         assert_eq!(check(&after, &before, group, channel), Ok(Checked::Yes));
         assert_eq!(check(&before, &before, group, channel), Ok(Checked::Yes));
+        let [file, edited] = [&before, &after].map(|body| {
+            let sections: [([u8; 4], &[u8]); 2] = [(*b"CASM", body), (*b"OTSc", b"ots")];
+            StyleDraft::new(b"track", &sections).bytes()
+        });
+        let told = check_files(&file, &edited, group, channel);
+        assert_eq!(told, Ok(Checked::Yes));
         seen[0] += 1;
         let (_, place) = find_channel(&before, group, channel).unwrap();
         for (other, found) in (0..).zip(&read_body(&before).unwrap()) {

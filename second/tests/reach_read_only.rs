@@ -4,6 +4,7 @@
 mod common;
 
 use common::answered::answered;
+use common::reached::counted;
 use second::body::read_body;
 use second::gen::{generate, Outcome, Script};
 use second::lookup::find_channel;
@@ -118,15 +119,6 @@ const OF_EDITS: [&str; 28] = [
     "free, override: 0, sets",
     "free, override: 9, a bad byte",
 ];
-
-/// How often each kind is met.
-fn counted(kinds: impl Iterator<Item = String>) -> BTreeMap<String, usize> {
-    let mut counts = BTreeMap::new();
-    for kind in kinds {
-        *counts.entry(kind).or_insert(0) += 1;
-    }
-    counts
-}
 
 fn assert_reached(counts: &BTreeMap<String, usize>, wanted: &[&str], least: usize) {
     for edition in ["First", "Second"] {
