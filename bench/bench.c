@@ -200,6 +200,7 @@ static const uint8_t *in;
 static size_t in_size;
 static size_t sent; /* of what is checked, so many bytes were sent, if there are so many; those behind came back */
 static void on(const uint8_t *input, size_t size) { in = input, in_size = size, sent = size / 2; }
+static size_t back = 1; /* the place that is asked for, of a byte or of a section's tag, counted back from the end */
 static size_t asked_group = ASKED_GROUP;
 static uint8_t asked_channel = ASKED_CHANNEL;
 static uint8_t *from = table;   /* the table of a group that is written .. */
@@ -211,6 +212,15 @@ static int checking; /* lent memory is folded in only where answers are compared
 #define FIND(call) { casm_section r = call(in, in_size); return mix(mix(mix(r.number, r.place), r.tag), r.length); }
 static uint64_t find_proved(void) FIND(casm_find)
 static uint64_t find_plain(void) FIND(plain_find)
+#define SECTION(call) { casm_length r = call(in, in_size, in_size - back); return mix(mix(r.number, r.place), r.length); }
+static __attribute__((noinline)) uint64_t section_proved(void) SECTION(casm_section_at) /* the call itself has no stack to show: so its wrapper stays one */
+static uint64_t section_plain(void) SECTION(plain_section_at)
+#define SITE(call) { casm_site r = call(in, in_size, in_size - back); return mix(mix(mix(mix(r.number, r.place), r.group), r.child), r.chunk); }
+static uint64_t site_proved(void) SITE(casm_site_at)
+static uint64_t site_plain(void) SITE(plain_site_at)
+#define ENTRY(call) { casm_length r = call(in, in_size); return mix(mix(r.number, r.place), r.length); }
+static uint64_t entry_proved(void) ENTRY(casm_entry)
+static uint64_t entry_plain(void) ENTRY(plain_entry)
 #define BODY(call) { casm_count r = call(in, in_size); return mix(mix(r.number, r.place), r.count); }
 static uint64_t body_proved(void) BODY(casm_body)
 static uint64_t body_plain(void) BODY(plain_body)
@@ -296,6 +306,23 @@ static void alike_placed(casm_row *lent_rows, int times)
         alike("place", place_proved, place_plain);
     }
     placed = rows;
+}
+
+/* Asked for every place, for some behind the end and some that no memory has, and then for places of damaged copies. */
+static void alike_at(const char *job, const uint8_t *input, size_t size, uint64_t (*proved)(void), uint64_t (*plain)(void), int times)
+{
+    on(input, size);
+    for (back = (size_t)-16; back != size + 16; back++) alike(job, proved, plain);
+    for (int i = 0; i < times; i++) back = any((uint32_t)size + 2), alike_damaged(job, input, size, proved, plain, 1);
+    back = 1;
+}
+
+/* A group as an entry: each beginning of it, and damaged copies. */
+static void alike_entry(const char *job, const uint8_t *input, int times)
+{
+    size_t size = 8 + length_at(input);
+    for (size_t k = 0; k <= size; k++) on(input, k), alike(job, entry_proved, entry_plain);
+    alike_damaged(job, input, size, entry_proved, entry_plain, times);
 }
 
 /* What came back against what was sent: asked for every group and channel, there or not, and then with either of the two damaged. */
@@ -411,7 +438,9 @@ static void ratios(void)
     on(damaged, sound_size), job("salvage, every second group damaged", salvage_proved, salvage_plain);
     on(csegs, sizeof csegs), job("salvage, 8,192 times CSEG", salvage_proved, salvage_plain);
     on(none, sizeof none), job("salvage, 32 KiB with no CSEG", salvage_proved, salvage_plain);
-    on(sound, sound_size), job("who plays", plays_proved, plays_plain);
+    on(sound, 8 + length_at(sound)), job("an entry, a sound group of 16 records", entry_proved, entry_plain);
+    on(sound, sound_size), job("what stands at a place, 32 groups", site_proved, site_plain);
+    job("who plays", plays_proved, plays_plain);
     job("place, 4,096 notes", place_proved, place_plain);
     job("write, 16 records", write_proved, write_plain);
     of_first(), on(sound, sound_size), job("edit", edit_proved, edit_plain);
@@ -441,6 +470,7 @@ static void growth(void)
     doubled("salvage, every second group damaged", salvage_proved, damaged, sound_half, 16, damaged, sound_size);
     doubled("salvage, 4,096 to 8,192 times CSEG", salvage_proved, csegs, sizeof csegs / 2, 16, csegs, sizeof csegs);
     doubled("salvage, 16 to 32 KiB with no CSEG", salvage_proved, none, sizeof none / 2, 16, none, sizeof none);
+    doubled("what stands at a place, 16 to 32 groups", site_proved, sound, sound_half, 16, sound, sound_size);
     doubled("who plays, 16 to 32 groups", plays_proved, sound, sound_half, 16, sound, sound_size);
     doubled("write, 8 to 16 records", write_proved, NULL, 0, 8, NULL, 0);
     doubled("edit, 16 to 32 groups", edit_proved, edited[0], sound_half, 16, edited[0], sound_size);
@@ -461,11 +491,14 @@ static void stacks(void)
 {
     printf("bytes of stack that a call writes below its caller, this program's wrapper included:\n");
     on(few, style(few, 6, 1048472)), stack("casm_find", find_proved);
+    back = in_size, stack("casm_section_at", section_proved), back = 1;
     on(sound, sound_size), stack("casm_body", body_proved);
     stack("casm_salvage", salvage_proved);
+    stack("casm_entry", entry_proved);
     stack("casm_part", part_proved);
     stack("casm_group", group_proved);
     stack("casm_channel", channel_proved);
+    stack("casm_site_at", site_proved);
     stack("casm_voice", voice_proved);
     stack("casm_plays", plays_proved);
     stack("casm_edit", edit_proved);
@@ -502,6 +535,14 @@ int main(int count, char **words)
     alike_checked("second check", second_bodies, second_bodies_size, check_proved, check_plain, 2000);
     alike_checked("check of files", small_files, small_files_size, check_files_proved, check_files_plain, 2000);
     on(bodies, bodies_size), in_size = sent + sound_half, alike("check, half of it came back", check_proved, check_plain);
+    alike_at("section", small_files, SMALL, section_proved, section_plain, 4000);
+    alike_at("site", sound, sound_size, site_proved, site_plain, 4000);
+    alike_at("site, short texts", small, small_size, site_proved, site_plain, 4000);
+    alike_at("second site", second, second_size, site_proved, site_plain, 4000);
+    alike_at("site, no CSEG", none, 4096, site_proved, site_plain, 1000);
+    alike_at("site, 1,024 times CSEG", csegs, 4096, site_proved, site_plain, 1000);
+    alike_entry("entry", sound, 4000), alike_entry("second entry", second, 4000);
+    alike_damaged("entry with bytes behind", both, both_size, entry_proved, entry_plain, 300);
     alike_placed(rows, 50), alike_placed(second_rows, 50);
     alike_written(table, 2000), alike_written(second_table, 2000);
     printf("alike on damaged inputs\n");

@@ -107,6 +107,37 @@ static void test_find(void) {
     test("find: no bytes", section.number == CASM_NOT_A_STYLE_FILE && section.place == 0 && section.tag == 0 && section.length == 0);
 }
 
+/* A length, or a refusal whose length is 0. */
+static int is_length(casm_length answer, unsigned long length) {
+    return answer.number == CASM_ACCEPTED && answer.place == 0 && answer.length == length;
+}
+
+static int no_length(casm_length answer, unsigned char number, unsigned long place) {
+    return answer.number == number && answer.place == place && answer.length == 0;
+}
+
+static void test_section_at(void) {
+    const unsigned char *least = bytes("OTSc\0\0\0\0"), *most = bytes("OTSc\377\377\377\377");
+    test("section: the MThd", is_length(casm_section_at(style, STYLE_SIZE, 0), 6));
+    test("section: the MTrk", is_length(casm_section_at(style, STYLE_SIZE, 14), 4));
+    test("section: the CASM, to the file's end", is_length(casm_section_at(style, STYLE_SIZE, STYLE_TAG), STYLE_BODY));
+    unsigned long at = 0, met = 0;
+    for (casm_length section; (section = casm_section_at(style, STYLE_SIZE, at)).number == CASM_ACCEPTED; met++)
+        at += 8 + section.length;
+    test("section: a walk from 0 to the end", met == 3 && at == STYLE_SIZE);
+    test("section: at the end", no_length(casm_section_at(style, STYLE_SIZE, STYLE_SIZE), CASM_CUT_OFF, STYLE_SIZE));
+    test("section: past the end", no_length(casm_section_at(style, STYLE_SIZE, STYLE_SIZE + 1), CASM_CUT_OFF, STYLE_SIZE + 1));
+    test("section: a length past the end", no_length(casm_section_at(style, STYLE_SIZE - 1, STYLE_TAG), CASM_CUT_OFF, STYLE_TAG));
+    test("section: 8 bytes", is_length(casm_section_at(least, 8, 0), 0));
+    test("section: 7 bytes", no_length(casm_section_at(least, 7, 0), CASM_CUT_OFF, 0));
+    test("section: 7 of 8 bytes", no_length(casm_section_at(least, 8, 1), CASM_CUT_OFF, 1));
+    test("section: the greatest length", no_length(casm_section_at(most, 8, 0), CASM_CUT_OFF, 0));
+    test("section: any four bytes are a tag", is_length(casm_section_at(style, STYLE_SIZE, 4), 1));
+    test("section: what is before is not judged", is_length(casm_section_at(M, M_SIZE, 8), 6));
+    test("section: no bytes", no_length(casm_section_at(0, 0, 0), CASM_CUT_OFF, 0));
+    test("section: a place in no bytes", no_length(casm_section_at(0, 0, 5), CASM_CUT_OFF, 5));
+}
+
 static void test_body(void) {
     unsigned char twice[2 * M_SIZE];
     memcpy(twice, M, M_SIZE);
@@ -151,6 +182,73 @@ static void test_channel(void) {
     test("channel: a body that is cut", position.number == CASM_CUT_OFF && position.at == 0);
 }
 
+static int is_site(casm_site site, unsigned long group, unsigned long child, unsigned long chunk) {
+    return site.number == CASM_ACCEPTED && site.place == 0 && site.group == group && site.child == child && site.chunk == chunk;
+}
+
+static int no_site(casm_site site, unsigned char number) {
+    return site.number == number && site.place == 0 && site.group == 0 && site.child == 0 && site.chunk == 0;
+}
+
+static void test_site_at(void) {
+    const unsigned long last = M_SIZE + 2 * 35, cntt = M_SIZE + 3 * 35;
+    test("site: the first byte, a group's header", is_site(casm_site_at(body, BODY_SIZE, 0), 0, 0, 0));
+    test("site: the last of the header", is_site(casm_site_at(body, BODY_SIZE, 7), 0, 0, 0));
+    test("site: the Sdec", is_site(casm_site_at(body, BODY_SIZE, 8), 0, 1, 8));
+    test("site: the last of its text", is_site(casm_site_at(body, BODY_SIZE, M_SIZE - 1), 0, 1, 8));
+    test("site: record 0", is_site(casm_site_at(body, BODY_SIZE, M_SIZE), 0, 2, M_SIZE));
+    test("site: its end marker", is_site(casm_site_at(body, BODY_SIZE, M_SIZE + 34), 0, 2, M_SIZE));
+    test("site: record 1", is_site(casm_site_at(body, BODY_SIZE, M_SIZE + 35), 0, 3, M_SIZE + 35));
+    test("site: the last record", is_site(casm_site_at(body, BODY_SIZE, cntt - 1), 0, 4, last));
+    test("site: a Cntt", is_site(casm_site_at(body, BODY_SIZE, cntt), 0, 5, cntt));
+    test("site: the last byte", is_site(casm_site_at(body, BODY_SIZE, BODY_SIZE - 1), 0, 5, cntt));
+    test("site: not there", no_site(casm_site_at(body, BODY_SIZE, BODY_SIZE), CASM_BAD_NUMBER));
+    test("site: not lent, though there", no_site(casm_site_at(body, cntt, cntt), CASM_BAD_NUMBER));
+    test("site: no bytes", no_site(casm_site_at(0, 0, 0), CASM_BAD_NUMBER));
+    test("site: a record of the second edition", is_site(casm_site_at(newer, NEWER_SIZE, NEWER_GROUP - 1), 0, 3, M_SIZE + SECOND_SIZE));
+    test("site: the next group's header", is_site(casm_site_at(newer, NEWER_SIZE, NEWER_GROUP), 1, 0, NEWER_GROUP));
+    test("site: its Sdec", is_site(casm_site_at(newer, NEWER_SIZE, NEWER_SIZE - 1), 1, 1, NEWER_GROUP + 8));
+    test("site: the group as an entry", is_site(casm_site_at(newer + NEWER_GROUP, M_SIZE, M_SIZE - 1), 0, 1, 8));
+}
+
+/* What is damaged is walked all the same. */
+static void test_site_damaged(void) {
+    unsigned char changed[BODY_SIZE + M_SIZE];
+    memcpy(changed, body, BODY_SIZE);
+    memset(changed + M_SIZE + 4, 0xFF, 4);
+    test("site: before a length that is too great", is_site(casm_site_at(changed, BODY_SIZE, M_SIZE - 1), 0, 1, 8));
+    test("site: all behind is of that chunk", is_site(casm_site_at(changed, BODY_SIZE, BODY_SIZE - 1), 0, 2, M_SIZE));
+    memcpy(changed + M_SIZE, "CSEG", 4);
+    test("site: a CSEG in a record's place, whatever its length", is_site(casm_site_at(changed, BODY_SIZE, M_SIZE + 7), 1, 0, M_SIZE));
+    test("site: the chunk 8 bytes on", is_site(casm_site_at(changed, BODY_SIZE, M_SIZE + 8), 1, 1, M_SIZE + 8));
+    memcpy(changed, M, M_SIZE);
+    memcpy(changed + 16, "CSEGs", 5);
+    memcpy(changed + M_SIZE, M, M_SIZE);
+    test("site: a CSEG in a text is none", is_site(casm_site_at(changed, 2 * M_SIZE, M_SIZE - 1), 0, 1, 8));
+    test("site: the group behind it", is_site(casm_site_at(changed, 2 * M_SIZE, 2 * M_SIZE - 1), 1, 1, M_SIZE + 8));
+    test("site: a header cut off", is_site(casm_site_at(changed, M_SIZE + 7, M_SIZE + 6), 1, 0, M_SIZE));
+    test("site: three bytes of a tag, loose behind a group", is_site(casm_site_at(changed, M_SIZE + 3, M_SIZE + 2), 0, 2, M_SIZE));
+    test("site: a single byte", is_site(casm_site_at(M, 1, 0), 0, 0, 0));
+    memset(changed, 0, 16);
+    memcpy(changed + 16, M, M_SIZE);
+    test("site: loose bytes", is_site(casm_site_at(changed, 16 + M_SIZE, 7), 0, 0, 0));
+    test("site: more of them", is_site(casm_site_at(changed, 16 + M_SIZE, 8), 0, 1, 8));
+    test("site: the first group behind them", is_site(casm_site_at(changed, 16 + M_SIZE, 16), 0, 0, 16));
+    test("site: and its Sdec", is_site(casm_site_at(changed, 16 + M_SIZE, 16 + 8), 0, 1, 16 + 8));
+}
+
+/* The place of a refusal, told as the record and its byte. */
+static void test_site_refused(void) {
+    unsigned char changed[BODY_SIZE];
+    casm_position position = casm_channel(body, BODY_SIZE, 0, 7);
+    memcpy(changed, body, BODY_SIZE);
+    changed[position.at + 24] = 200;
+    unsigned long place = casm_body(changed, BODY_SIZE).place;
+    casm_site site = casm_site_at(changed, BODY_SIZE, place);
+    test("site: the record of a refusal", site.number == CASM_ACCEPTED && site.group == 0 && site.child - 2 == position.record && site.chunk + 8 == position.at);
+    test("site: and its byte", place - site.chunk - 8 == 24);
+}
+
 static void test_salvage(void) {
     const unsigned long wanted[7] = {0, 22, 0, 22, 1, 6, 9};
     unsigned long list[7] = {9, 9, 9, 9, 9, 9, 9};
@@ -161,6 +259,60 @@ static void test_salvage(void) {
     test("salvage: example 8", entries.number == CASM_ACCEPTED && entries.count == 2 && memcmp(list, wanted, sizeof wanted) == 0);
     entries = casm_salvage(0, 0, 0, 0);
     test("salvage: nothing lent", entries.number == CASM_ACCEPTED && entries.count == 0);
+}
+
+/* The group of three records as an entry, with one byte changed: whether it is refused with this number at this place. */
+static int entry_changed(unsigned long at, unsigned char value, unsigned char number, unsigned long place) {
+    unsigned char changed[BODY_SIZE];
+    memcpy(changed, body, BODY_SIZE);
+    changed[at] = value;
+    return no_length(casm_entry(changed, BODY_SIZE), number, place);
+}
+
+static void test_entry(void) {
+    const unsigned long first = M_SIZE, later = M_SIZE + 35, cntt = M_SIZE + 3 * 35;
+    test("entry: a group", is_length(casm_entry(body, BODY_SIZE), BODY_SIZE));
+    test("entry: a group and loose bytes", is_length(casm_entry(style + STYLE_TAG + 8, STYLE_BODY), M_SIZE));
+    test("entry: a group of the second edition, another behind", is_length(casm_entry(newer, NEWER_SIZE), NEWER_GROUP));
+    test("entry: no bytes", no_length(casm_entry(0, 0), CASM_BAD_TAG, 0));
+    test("entry: loose bytes", no_length(casm_entry(style, STYLE_SIZE), CASM_BAD_TAG, 0));
+    test("entry: three bytes", no_length(casm_entry(M, 3), CASM_BAD_TAG, 0));
+    test("entry: CSEG alone", no_length(casm_entry(M, 4), CASM_CUT_OFF, 0));
+    test("entry: a byte less than a group", no_length(casm_entry(M, M_SIZE - 1), CASM_CUT_OFF, 0));
+    test("entry: an empty group", no_length(casm_entry(bytes("CSEG\0\0\0\0"), 8), CASM_BAD_TAG, 0));
+    test("entry: no room for an Sdec", no_length(casm_entry(bytes("CSEG\0\0\0\1S"), 9), CASM_CUT_OFF, 8));
+    test("entry: no Sdec", entry_changed(8, 's', CASM_BAD_TAG, 8));
+    test("entry: a text", entry_changed(M_SIZE - 1, ',', CASM_BAD_TEXT, 8));
+    test("entry: a record's tag", entry_changed(later, 'c', CASM_BAD_TAG, later));
+    test("entry: a record's length past the group", entry_changed(later + 6, 1, CASM_CUT_OFF, later));
+    test("entry: a record's length", entry_changed(later + 7, 26, CASM_BAD_SIZE, later));
+    test("entry: a byte out of range", entry_changed(later + 8 + 24, 128, CASM_OUT_OF_RANGE, later + 8 + 24));
+    test("entry: a channel again", entry_changed(later + 8, 3, CASM_CHANNEL_AGAIN, later));
+    test("entry: a Cntt without its Ctab", entry_changed(cntt + 8, 9, CASM_STRAY_CNTT, cntt));
+    test("entry: a Cntt's value", entry_changed(BODY_SIZE - 1, 0x7F, CASM_OUT_OF_RANGE, BODY_SIZE - 1));
+    test("entry: another edition in the group", entry_changed(first + 3, '2', CASM_BAD_TAG, first));
+}
+
+/* Whether each entry of a list is answered with its kind, and a sound one with its length; and the place of a damaged one, counted in the body. */
+static void test_entries(void) {
+    unsigned char damaged[3 + 2 * BODY_SIZE + NEWER_SIZE];
+    unsigned long list[3 * 6], damaged_at = 3 + BODY_SIZE, place = 0;
+    memcpy(damaged, "Sty", 3);
+    memcpy(damaged + 3, body, BODY_SIZE);
+    memcpy(damaged + damaged_at, body, BODY_SIZE);
+    memcpy(damaged + damaged_at + BODY_SIZE, newer, NEWER_SIZE);
+    damaged[damaged_at + M_SIZE + 8 + 24] = 200;
+    casm_count entries = casm_salvage(damaged, sizeof damaged, list, 3 * 6);
+    int kinds = entries.number == CASM_ACCEPTED;
+    for (unsigned long i = 0; i < entries.count; i++) {
+        const unsigned long at = list[3 * i], length = list[3 * i + 1], kind = list[3 * i + 2];
+        casm_length entry = casm_entry(damaged + at, length);
+        kinds = kinds && entry.number == kind && entry.length == (kind == 0 ? length : 0);
+        if (at == damaged_at)
+            place = at + entry.place;
+    }
+    test("entry: five of a list, each by its kind", entries.count == 5 && kinds);
+    test("entry: where the damaged one is refused", place == damaged_at + M_SIZE + 8 + 24);
 }
 
 /* ---- the questions */
@@ -417,16 +569,26 @@ static void test_limits(void) {
     static unsigned long list[CASM_MAX_LIST];
     test("limits: a file of the most bytes", casm_find(long_file, CASM_MAX_FILE).number == CASM_NOT_A_STYLE_FILE);
     test("limits: a byte more", casm_find(long_file, CASM_MAX_FILE + 1).number == CASM_OVER_LIMIT);
+    test("limits: a section has none", is_length(casm_section_at(long_file, CASM_MAX_FILE + 1, CASM_MAX_FILE - 7), 0));
+    test("limits: nor has its refusal", no_length(casm_section_at(long_file, CASM_MAX_FILE + 1, CASM_MAX_FILE - 6), CASM_CUT_OFF, CASM_MAX_FILE - 6));
     for (int i = 0; i < CASM_MAX_BODY; i++)
         long_body[i] = (unsigned char)"CSEG"[i % 4];
     test("limits: a byte more than a body has", casm_body(long_body, CASM_MAX_BODY + 1).number == CASM_OVER_LIMIT);
     casm_count entries = casm_salvage(long_body, CASM_MAX_BODY, list, CASM_MAX_LIST);
     test("limits: the longest list", entries.number == CASM_ACCEPTED && 3 * entries.count == CASM_MAX_LIST);
     test("limits: a number less", casm_salvage(long_body, CASM_MAX_BODY, list, CASM_MAX_LIST - 1).number == CASM_NO_ROOM);
+    casm_site site = casm_site_at(long_body, CASM_MAX_BODY, CASM_MAX_BODY - 1);
+    test("limits: the last place, of more groups than may be", is_site(site, CASM_MAX_BODY / 8 - 1, 0, CASM_MAX_BODY - 8));
+    test("limits: a place behind it", no_site(casm_site_at(long_body, CASM_MAX_BODY, CASM_MAX_BODY), CASM_BAD_NUMBER));
+    test("limits: a place of too long a body", no_site(casm_site_at(long_body, CASM_MAX_BODY + 1, 0), CASM_OVER_LIMIT));
+    test("limits: first of all", no_site(casm_site_at(long_body, CASM_MAX_BODY + 1, CASM_MAX_BODY + 1), CASM_OVER_LIMIT));
     for (int i = 0; i <= CASM_MAX_GROUPS; i++) {
         memcpy(long_body + i * M_SIZE, M, M_SIZE);
         long_body[i * M_SIZE + M_SIZE - 1] = (unsigned char)('A' + i);
     }
+    test("limits: the longest entry", is_length(casm_entry(long_body, CASM_MAX_BODY), M_SIZE));
+    test("limits: a longer one", no_length(casm_entry(long_body, CASM_MAX_BODY + 1), CASM_OVER_LIMIT, 0));
+    test("limits: before its tag", no_length(casm_entry(long_file, CASM_MAX_BODY + 1), CASM_OVER_LIMIT, 0));
     casm_count groups = casm_body(long_body, CASM_MAX_GROUPS * M_SIZE);
     test("limits: the most groups", groups.number == CASM_ACCEPTED && groups.count == CASM_MAX_GROUPS);
     groups = casm_body(long_body, (CASM_MAX_GROUPS + 1) * M_SIZE);
@@ -446,6 +608,12 @@ static void test_large_numbers(void) {
     test("large: the records' group", casm_records(body, BODY_SIZE, large, 0, 0).number == CASM_BAD_NUMBER);
     test("large: a check's group", casm_check(body, BODY_SIZE, body, BODY_SIZE, large, three[0].bytes[0]).number == CASM_BAD_NUMBER);
     test("large: a field's index", casm_field(three[0], large, 0).number == CASM_BAD_NUMBER);
+    test("large: a place", no_site(casm_site_at(body, BODY_SIZE, large), CASM_BAD_NUMBER));
+    test("large: the largest", no_site(casm_site_at(body, BODY_SIZE, ~0UL), CASM_BAD_NUMBER));
+    test("large: a section's place, which comes back", no_length(casm_section_at(style, STYLE_SIZE, large), CASM_CUT_OFF, large));
+    test("large: the largest that 8 more fit behind", no_length(casm_section_at(style, STYLE_SIZE, ~0UL - 8), CASM_CUT_OFF, ~0UL - 8));
+    test("large: where 8 more are 0", no_length(casm_section_at(style, STYLE_SIZE, ~0UL - 7), CASM_CUT_OFF, ~0UL - 7));
+    test("large: the largest section's place", no_length(casm_section_at(style, STYLE_SIZE, ~0UL), CASM_CUT_OFF, ~0UL));
     test("large: a count", casm_write((const unsigned char *)"Main A", 6, 0, 0, large, out, sizeof out).number == CASM_BAD_NUMBER);
 }
 
@@ -837,11 +1005,17 @@ int main(void) {
     test("the version", CASM_VERSION == 4001);
     prepare();
     test_find();
+    test_section_at();
     test_body();
     test_part();
     test_group();
     test_channel();
+    test_site_at();
+    test_site_damaged();
+    test_site_refused();
     test_salvage();
+    test_entry();
+    test_entries();
     test_plays();
     test_voice();
     test_place();

@@ -1,4 +1,5 @@
-/* Plain C for the layout of documents 01 and 02, written to be fast: the yardstick of bench.c. It follows the documents and not the proved code. */
+/* Plain C for the layout of documents 01 and 02, written to be fast: the yardstick of bench.c. It follows the documents and not the proved code;
+   where they say nothing, of a section, a place or an entry by itself, it follows include/casm.h. */
 #include "plain.h"
 
 enum { BODY_LIMIT = 32768, FILE_LIMIT = 1048576, GROUPS = 32, FIRST = 1, SECOND = 2 };
@@ -22,7 +23,7 @@ static inline size_t edition_of(uint8_t number) { return number == SECOND ? SECO
 static inline uint32_t word(const uint8_t *s) { return (uint32_t)s[0] << 24 | (uint32_t)s[1] << 16 | (uint32_t)s[2] << 8 | s[3]; }
 static inline uint32_t tag(const char *t) { return word((const uint8_t *)t); }
 
-/* ---- the CASM section of a file */
+/* ---- the sections of a file */
 
 casm_section plain_find(const uint8_t *file, size_t size)
 {
@@ -42,6 +43,13 @@ casm_section plain_find(const uint8_t *file, size_t size)
     if (casm == 0) return r.number = 5, r.place = size, r;
     if (length > BODY_LIMIT) return r.number = 3, r.place = casm, r;
     return r.tag = casm, r.length = length, r;
+}
+
+casm_length plain_section_at(const uint8_t *file, size_t size, size_t at)
+{
+    casm_length r = {0};
+    if (size < 8 || at > size - 8 || word(file + at + 4) > size - at - 8) return r.number = 2, r.place = at, r;
+    return r.length = word(file + at + 4), r;
 }
 
 /* ---- one group: p has n bytes */
@@ -247,7 +255,25 @@ casm_count plain_body(const uint8_t *body, size_t size)
     return (casm_count){f.number, f.place, f.number ? 0 : count};
 }
 
-/* ---- the salvage list */
+/* The chunks from 0 on. A place within 8 bytes of a chunk's beginning is in that chunk; where it is not, all of the header is there. */
+casm_site plain_site_at(const uint8_t *body, size_t size, size_t place)
+{
+    casm_site r = {0};
+    size_t headers = 0, at = 0;
+    if (size > BODY_LIMIT) return r.number = 3, r;
+    if (place >= size) return r.number = 16, r;
+    for (;; r.child++) {
+        _Bool header = size - at >= 4 && word(body + at) == tag("CSEG");
+        if (header) headers++, r.child = 0;
+        if (place - at < 8) break;
+        size_t step = header ? 8 : 8 + (size_t)word(body + at + 4);
+        if (place - at < step) break;
+        at += step;
+    }
+    return r.group = headers ? headers - 1 : 0, r.chunk = at, r;
+}
+
+/* ---- the salvage list, and one entry of it */
 
 static size_t next_cseg(const uint8_t *s, size_t size, size_t at)
 {
@@ -284,6 +310,17 @@ casm_count plain_salvage(const uint8_t *body, size_t size, size_t *list, size_t 
     if (size > BODY_LIMIT) return r.number = 3, r;
     if (size / 4 >= room && entries(body, size, NULL, 0) > room) return r.number = 14, r;
     return r.count = entries(body, size, list, room), r;
+}
+
+casm_length plain_entry(const uint8_t *entry, size_t size)
+{
+    casm_length r = {0};
+    struct group g;
+    if (size > BODY_LIMIT) return r.number = 3, r;
+    if (size < 4 || word(entry) != tag("CSEG")) return r.number = 6, r;
+    struct fault f = read_group(entry, size, &g);
+    if (f.number) return r.number = f.number, r.place = f.place, r;
+    return r.length = g.size, r;
 }
 
 /* ---- questions */

@@ -328,6 +328,22 @@ static int find(Text *line) {
     return 1;
 }
 
+/* `ok` and a length, or the refusal. */
+static void tell_length(casm_length answer) {
+    if (told(answer.number, answer.place, answer.length))
+        print_number(answer.length);
+}
+
+/* section BYTES AT */
+static int section(Text *line) {
+    Lent file;
+    unsigned long at;
+    if (!bytes(line, body_end, &file) || !number(line, &at) || !ended(line))
+        return 0;
+    tell_length(casm_section_at(file.at, file.length, at));
+    return 1;
+}
+
 /* body BYTES */
 static int body(Text *line) {
     Lent lent;
@@ -379,6 +395,21 @@ static int channel(Text *line) {
     if (told(position.number, position.place, position.record | position.at)) {
         print_number(position.record);
         print_number(position.at);
+    }
+    return 1;
+}
+
+/* site BYTES PLACE */
+static int site(Text *line) {
+    Lent lent;
+    unsigned long place;
+    if (!bytes(line, body_end, &lent) || !number(line, &place) || !ended(line))
+        return 0;
+    casm_site found = casm_site_at(lent.at, lent.length, place);
+    if (told(found.number, found.place, found.group | found.child | found.chunk)) {
+        print_number(found.group);
+        print_number(found.child);
+        print_number(found.chunk);
     }
     return 1;
 }
@@ -481,8 +512,7 @@ static int write_group(Text *line) {
         put_row(table, i, rows[i]);
     memset(body_end - room, OF_BUFFER, room);
     casm_length written = casm_write(names.at, names.length, table.at, table.length, count, buffer.at, buffer.length);
-    if (told(written.number, written.place, written.length))
-        print_number(written.length);
+    tell_length(written);
     print_bytes(buffer.at, buffer.length);
     return 1;
 }
@@ -539,6 +569,15 @@ static int salvage(Text *line) {
     return 1;
 }
 
+/* entry BYTES */
+static int entry(Text *line) {
+    Lent lent;
+    if (!bytes(line, body_end, &lent) || !ended(line))
+        return 0;
+    tell_length(casm_entry(lent.at, lent.length));
+    return 1;
+}
+
 /* Yes, or no with its place. An accepted answer refuses neither, `yes` is 0 or 1, and a yes has no place: where that does not hold, it is told otherwise. */
 static void print_yes_or_no(casm_checked checked) {
     print(checked.yes == 0 ? " no" : checked.yes == 1 ? " yes" : " ?");
@@ -586,9 +625,10 @@ static const struct {
     const char *name;
     int (*answer)(Text *line);
 } verbs[] = {
-    {"find", find},   {"body", body},     {"part", part},       {"where", where},     {"channel", channel},
-    {"group", group}, {"voice", voice},   {"plays", plays},     {"place", place},     {"write", write_group},
-    {"edit", edit},   {"screen", screen}, {"salvage", salvage}, {"checked", checked}, {"checkedfile", checked_file},
+    {"find", find},       {"body", body},     {"part", part},       {"where", where},     {"channel", channel},
+    {"group", group},     {"voice", voice},   {"plays", plays},     {"place", place},     {"write", write_group},
+    {"edit", edit},       {"screen", screen}, {"salvage", salvage}, {"checked", checked}, {"checkedfile", checked_file},
+    {"section", section}, {"entry", entry},   {"site", site},
 };
 
 static int answered(Text line) {

@@ -45,8 +45,9 @@
  *    which is answered as 3.0 answered, or CASM_KEEP_LOCKED;
  *  - expect 22 from casm_edit with CASM_KEEP_LOCKED where byte 10 of the record in the body is 01, and from casm_field where that of the row is,
  *    for every index but 10: a lock is taken off by setting byte 10 to 00.
- * 4.1: What other editors return is checked: casm_check and casm_check_files are new, and the constants of their `which`. These are added and
- *    nothing else changes: what uses 4.0 stays as it is. */
+ * 4.1: What other editors return is checked: casm_check and casm_check_files are new, and the constants of their `which`. What is refused can be shown
+ *    to people: casm_section_at, casm_entry and casm_site_at are new, and casm_site. These are added and nothing else changes: what uses 4.0 stays
+ *    as it is. */
 #define CASM_VERSION_MAJOR 4
 #define CASM_VERSION_MINOR 1
 #define CASM_VERSION (1000 * CASM_VERSION_MAJOR + CASM_VERSION_MINOR)
@@ -116,7 +117,7 @@ typedef struct {
     unsigned long count;
 } casm_count;
 
-/* How many bytes were written. */
+/* How many bytes were written, or how long a section's body or a group is. */
 typedef struct {
     unsigned char number;
     unsigned long place;
@@ -163,6 +164,17 @@ typedef struct {
     unsigned long record;
     unsigned long at;
 } casm_position;
+
+/* What stands at a place of a body: the number of the group; the number of the chunk in the group, whose own header is number 0, its Sdec 1, its
+ * records from 2 on and its Cntts behind them; and the place of the chunk's tag. So in a record its number is child - 2, and the byte of the record is
+ * the place that was asked for - chunk - 8. */
+typedef struct {
+    unsigned char number;
+    unsigned long place;
+    unsigned long group;
+    unsigned long child;
+    unsigned long chunk;
+} casm_site;
 
 /* A part of the lent bytes. */
 typedef struct {
@@ -226,6 +238,12 @@ typedef struct {
  * Refusals: 3, 1; per section 2, 4; then 5, 3. */
 casm_section casm_find(const unsigned char *file, unsigned long file_length);
 
+/* A section of a style file by the place of its tag, the leading MThd (at 0) and MTrk (at 14) too: the length of its body. The next one stands 8 and so
+ * many bytes on: so a caller walks a file from 0 to its end. Nothing else is judged, no limit and no tag: casm_find judges the file as a whole.
+ * `tag` may be any number.
+ * Refusals: 2, at `tag`, where fewer than 8 bytes are left there for tag and length, or the length passes the file's end. */
+casm_length casm_section_at(const unsigned char *file, unsigned long file_length, unsigned long tag);
+
 /* Reads a body strictly: how many groups it has.
  * Refusals: 3; per group 2, 6, 2, 12, then of what is in it 6, 2, 6, 2, 7, 8, 9, 10, 11, then 21, 13. Below they are "the body's".
  * 21 stands at the tag of a group whose records are of another edition than those of the first group with records. A group without records suits either. */
@@ -243,11 +261,25 @@ casm_bounds casm_group(const unsigned char *body, unsigned long body_length, uns
  * Refusals: the body's; 16 where there is no such group; 15. */
 casm_position casm_channel(const unsigned char *body, unsigned long body_length, unsigned long group, unsigned char source);
 
+/* What stands at a place of a body, or of an entry of its salvage list, sound or damaged, by the lengths that stand before it. So the place at which
+ * one is refused is told as group, record and byte: all before it is sound, and groups and records have the numbers that the other calls give them.
+ * A chunk begins at 0. CSEG where a chunk begins is a group's header, and the next chunk begins 8 bytes on, within the group; any other chunk is passed
+ * over whole, by its length. So a group lasts until the next CSEG: what is loose behind it counts as more chunks of it. Chunks before the first CSEG have
+ * group 0, and are numbered from 0 on.
+ * Refusals: 3; 16, at 0, where `place` is not below body_length. */
+casm_site casm_site_at(const unsigned char *body, unsigned long body_length, unsigned long place);
+
 /* Fills `list` with the salvage list of a body, sound or damaged: three numbers an entry (place, length, kind), numbers past the last
  * entry kept. list_length counts numbers, not entries. CASM_MAX_LIST numbers are enough for any body. Each group is taken by itself, so that
  * the list may show groups of both editions, and no kind is 12, 13 or 21.
  * Refusals: 3; 14. */
 casm_count casm_salvage(const unsigned char *body, unsigned long body_length, unsigned long *list, unsigned long list_length);
+
+/* An entry of a salvage list by its bytes alone: the size of the group that stands at its start, with the header. An entry of a list that casm_salvage
+ * filled is answered with its kind as number: so this says where in the entry the refusal stands, counted from the entry's start.
+ * Refusals: 3; 6, at 0, for bytes that do not begin with CSEG, which are loose, and for none at all; then a group's, 2, and of what is in it
+ * 6, 2, 6, 2, 7, 8, 9, 10, 11. */
+casm_length casm_entry(const unsigned char *entry, unsigned long entry_length);
 
 /* Who plays for a part under a chord root (0-11, C is 0) and a chord type (0-33).
  * Refusals: the body's; 16 for root or type; 15. */

@@ -5,6 +5,7 @@ use crate::body::{read_body, read_group};
 use crate::check::{check, check_files, Check, Checked, Which};
 use crate::edit::edit;
 use crate::edition::{Edition, FIELDS};
+use crate::entry::entry;
 use crate::list::LIST_ROOM;
 use crate::lookup::{find_channel, find_group, find_part};
 use crate::place::place_note;
@@ -16,6 +17,8 @@ use crate::screen::set_field;
 use crate::script::{
     byte, bytes, number, overriding, record, room, show_bytes, show_record, tokens,
 };
+use crate::section::section;
+use crate::site::site;
 use crate::style::find;
 use crate::voice::voice_name;
 use crate::write::write_group;
@@ -30,7 +33,7 @@ pub const VERBS: [&str; 13] = [
 
 /// The verbs that a generated script has only where they are named, so that one of no named verb
 /// stays as it was before they came.
-pub const ONLY_NAMED: [&str; 2] = ["checked", "checkedfile"];
+pub const ONLY_NAMED: [&str; 5] = ["checked", "checkedfile", "section", "entry", "site"];
 
 /// The most that a line may lend.
 pub const RECORD_ROOM: usize = 32;
@@ -122,6 +125,9 @@ fn run(tokens: &[&[u8]]) -> Option<String> {
             number(group)?,
             byte(channel)?,
         ))),
+        (b"section", &[file, at]) => Some(run_section(&bytes(file)?, number(at)?)),
+        (b"entry", &[piece]) => Some(run_entry(&bytes(piece)?)),
+        (b"site", &[body, place]) => Some(run_site(&bytes(body)?, number(place)?)),
         (b"salvage", &[body, lent]) => Some(run_salvage(&bytes(body)?, room(lent, LIST_ROOM)?)),
         _ => None,
     }
@@ -297,6 +303,27 @@ fn run_salvage(body: &[u8], room: usize) -> String {
             format!("{answer} {}", kept(&lent[count..], LENT_ENTRY))
         }
         Err(refusal) => format!("{} {}", refused(refusal), kept(&lent, LENT_ENTRY)),
+    }
+}
+
+fn run_section(file: &[u8], at: u32) -> String {
+    match section(file, at) {
+        Ok(length) => format!("ok {length}"),
+        Err(refusal) => refused(refusal),
+    }
+}
+
+fn run_entry(piece: &[u8]) -> String {
+    match entry(piece) {
+        Ok(size) => format!("ok {size}"),
+        Err(refusal) => refused(refusal),
+    }
+}
+
+fn run_site(body: &[u8], place: u32) -> String {
+    match site(body, place) {
+        Ok(found) => format!("ok {} {} {}", found.group, found.child, found.chunk),
+        Err(refusal) => refused(refusal),
     }
 }
 

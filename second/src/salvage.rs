@@ -32,7 +32,7 @@ pub fn salvage(body: &[u8], lent: &mut [Entry]) -> Answer<usize> {
 }
 
 /// Every entry of a body, in order.
-fn entries(body: &[u8]) -> Vec<Entry> {
+pub fn entries(body: &[u8]) -> Vec<Entry> {
     let cuts: Vec<usize> = (0..body.len())
         .filter(|&place| body[place..].starts_with(&CSEG))
         .collect();

@@ -11,26 +11,12 @@ mod common;
 
 use common::checks::{checks, Check, Lent};
 use common::chunks::{chunks, groups, of_tag, records};
+use common::readings::readings;
 use second::refusal::Refusal;
 use std::ops::Range;
 
-/// The right reading, then wrong ones of both verbs and of files alone; and lists of these.
-macro_rules! readings {
-    (both: [$($both:ident)*] files: [$($files:ident)*]) => {
-        #[derive(Clone, Copy, Debug, PartialEq, Eq)]
-        enum Reading {
-            Right,
-            $($both,)*
-            $($files,)*
-        }
-
-        const OF_BOTH: [Reading; 26] = [$($both),*];
-        const OF_FILES: [Reading; 19] = [$($files),*];
-    };
-}
-
 readings! {
-    both: [
+    OF_BOTH: 26 [
         RecordCompared
         RecordByte0Compared
         LockedRecordCompared
@@ -58,7 +44,7 @@ readings! {
         BodiesSwapped
         SixteenNamesAfter
     ]
-    files: [
+    OF_FILES: 19 [
         AfterFileNotFound
         AfterFileFirst
         BodyBeforeAfterFile

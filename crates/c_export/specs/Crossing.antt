@@ -21,6 +21,7 @@ use Rattle.layout.specs.declared.answer.Spanned.{Spanned}
 use Rattle.layout.specs.declared.answer.Played.{Played}
 use Rattle.layout.specs.declared.answer.Placed.{Placed}
 use Rattle.layout.specs.declared.answer.Changed.{Changed}
+use Rattle.layout.specs.declared.answer.Sited.{Sited}
 use Rattle.layout.specs.declared.answer.Which.{Which}
 use Rattle.layout.specs.declared.answer.Which.the-variants.{Neither, BeforeFile, AfterFile, BeforeBody, AfterBody}
 use Rattle.layout.specs.declared.answer.Checked.{Checked}
@@ -36,6 +37,7 @@ use Rattle.c_export.specs.declared.answer.Players.{Players}
 use Rattle.c_export.specs.declared.answer.Note.{Note}
 use Rattle.c_export.specs.declared.answer.Edited.{Edited}
 use Rattle.c_export.specs.declared.answer.Check.{Check}
+use Rattle.c_export.specs.declared.answer.Site.{Site}
 
 -- accepted or refused
 abbrev pub answered : Answer → Answered
@@ -108,6 +110,10 @@ editOf c = record { number = c .number; place = c .place; held = rowFor (c .held
 -- what a caller in C asks for: 1 overrides a lock, and any other number does not
 unfoldable pub overrideBy : ℕ → Override
 overrideBy n = cond (eqb n 1) Asked NotAsked
+
+-- what stands at a place
+abbrev pub asSited : Site → Sited
+asSited r = record { number = r .number; place = r .place; group = r .group; child = r .child; chunk = r .chunk }
 
 -- what a refusal of a check speaks of, by number
 abbrev pub whichNumber : Which → ℕ

@@ -17,7 +17,7 @@ pub struct Count {
     pub count: usize,
 }
 
-// How many bytes were written.
+// How many bytes were written, or how long a section's body or a group is.
 #[repr(C)]
 pub struct Length {
     pub number: u8,
@@ -110,4 +110,14 @@ pub struct Check {
     pub which: u8,
     pub yes: u8,
     pub unlike: usize,
+}
+
+// What stands at a place: the number of the group, the number of the chunk in it, and the place of the chunk's tag.
+#[repr(C)]
+pub struct Site {
+    pub number: u8,
+    pub place: usize,
+    pub group: usize,
+    pub child: usize,
+    pub chunk: usize,
 }

@@ -1,12 +1,14 @@
 // Strict reading and the salvage list (document 01, "The CASM body" and "The salvage list").
 ghost use mathlib.Core.Path.{_≡_};
-ghost use Rattle.layout.specs.Promises.{CasmFound, BodyRead, PartFound, ChannelFound, Salvaged};
-ghost use Rattle.c_export.specs.Crossing.{asLocated, asCounted, asNamed, editionTold, GroupCrossed, asChannelled};
+ghost use Rattle.layout.specs.Promises.{CasmFound, SectionRead, BodyRead, PartFound, ChannelFound, Salvaged, EntryJudged, PlaceFound};
+ghost use Rattle.c_export.specs.Crossing.{asLocated, asCounted, asMeasured, asNamed, editionTold, GroupCrossed, asChannelled, asSited};
 use crate::answer::Bounds;
 use crate::answer::Count;
 use crate::answer::Holder;
+use crate::answer::Length;
 use crate::answer::Position;
 use crate::answer::Section;
+use crate::answer::Site;
 use c_row::row::edition_number;
 use layout::edition::Edition;
 use layout::record::SourceChannel;
@@ -21,6 +23,19 @@ pub extern "C" fn casm_find(file: &[u8]) -> Section
         number: x.number,
         place: x.place,
         tag: x.tag,
+        length: x.length,
+    }
+}
+
+// A section of a style file by the place of its tag: the length of its body.
+#[no_mangle]
+pub extern "C" fn casm_section_at(file: &[u8], tag: usize) -> Length
+    ensures { λ r. ⌜ SectionRead (now (file .entry)) tag (asMeasured r) ⌝ }
+{
+    let x = casm::read::read_section(file, tag);
+    Length {
+        number: x.number,
+        place: x.place,
         length: x.length,
     }
 }
@@ -109,5 +124,33 @@ pub extern "C" fn casm_salvage(body: &[u8], list: &mut [usize]) -> Count
         number: x.number,
         place: x.place,
         count: x.count,
+    }
+}
+
+// An entry of a salvage list by its bytes alone: the size of its group, or the refusal with its place in the entry.
+#[no_mangle]
+pub extern "C" fn casm_entry(entry: &[u8]) -> Length
+    ensures { λ r. ⌜ EntryJudged (now (entry .entry)) (asMeasured r) ⌝ }
+{
+    let x = casm::list::judge_entry(entry);
+    Length {
+        number: x.number,
+        place: x.place,
+        length: x.length,
+    }
+}
+
+// What stands at a place of a body, or of an entry of its salvage list.
+#[no_mangle]
+pub extern "C" fn casm_site_at(body: &[u8], place: usize) -> Site
+    ensures { λ r. ⌜ PlaceFound (now (body .entry)) place (asSited r) ⌝ }
+{
+    let x = casm::read::find_place(body, place);
+    Site {
+        number: x.number,
+        place: x.place,
+        group: x.group,
+        child: x.child,
+        chunk: x.chunk,
     }
 }

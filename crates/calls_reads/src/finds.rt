@@ -1,9 +1,12 @@
 // Strict reading, and where the things of a body stand: a refusal, or the numbers in the order of their answer.
+use casm::list::judge_entry;
 use casm::read::find_casm;
 use casm::read::find_channel;
 use casm::read::find_group;
 use casm::read::find_part;
+use casm::read::find_place;
 use casm::read::read_body;
+use casm::read::read_section;
 use layout::edition::Edition;
 use layout::record::SourceChannel;
 use script_text::print::OUT;
@@ -67,4 +70,28 @@ pub fn place(body: &[u8], group: usize, out: &mut [u8; OUT], used: usize) -> usi
 pub fn channel(body: &[u8], group: usize, source: u8, out: &mut [u8; OUT], used: usize) -> usize {
     let found = find_channel(body, group, SourceChannel(source));
     put_told(out, used, found.number, found.place, &[found.row, found.at])
+}
+
+// `section BYTES AT`
+pub fn section(file: &[u8], tag: usize, out: &mut [u8; OUT], used: usize) -> usize {
+    let read = read_section(file, tag);
+    put_told(out, used, read.number, read.place, &[read.length])
+}
+
+// `entry BYTES`
+pub fn entry(bytes: &[u8], out: &mut [u8; OUT], used: usize) -> usize {
+    let judged = judge_entry(bytes);
+    put_told(out, used, judged.number, judged.place, &[judged.length])
+}
+
+// `site BYTES PLACE`
+pub fn site(body: &[u8], place: usize, out: &mut [u8; OUT], used: usize) -> usize {
+    let found = find_place(body, place);
+    put_told(
+        out,
+        used,
+        found.number,
+        found.place,
+        &[found.group, found.child, found.chunk],
+    )
 }

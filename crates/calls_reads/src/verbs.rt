@@ -8,10 +8,13 @@ use script_asked::BODY;
 use script_asked::CHANNEL;
 use script_asked::CHECKED;
 use script_asked::CHECKEDFILE;
+use script_asked::ENTRY;
 use script_asked::FIND;
 use script_asked::PART;
 use script_asked::PLAYS;
 use script_asked::SALVAGE;
+use script_asked::SECTION;
+use script_asked::SITE;
 use script_asked::VOICE;
 use script_asked::WHERE;
 use script_text::print::OUT;
@@ -37,6 +40,9 @@ pub fn answer(
         SALVAGE => salvage(body, one, out, used),
         PLAYS => plays(body, name, byte(one), byte(two), out, used),
         VOICE => voice(body, one, byte(two), out, used),
+        SECTION => finds::section(body, one, out, used),
+        ENTRY => finds::entry(body, out, used),
+        SITE => finds::site(body, one, out, used),
         CHECKED => checks::bodies(body, name, one, byte(two), out, used),
         CHECKEDFILE => checks::files(body, name, one, byte(two), out, used),
         _ => put_bad(out, used),

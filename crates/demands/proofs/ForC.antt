@@ -5,11 +5,14 @@ use Rattle.layout.specs.declared.answer.Which.{Which}
 use Rattle.layout.specs.declared.answer.Checked.{Checked}
 use Rattle.layout.specs.Check.{Verdict, bodiesChecked, filesChecked, checked}
 use Rattle.c_export.proofs.reading.casm_find.Met as casm-find
+use Rattle.c_export.proofs.reading.casm_section_at.Met as casm-section-at
 use Rattle.c_export.proofs.reading.casm_body.Met as casm-body
 use Rattle.c_export.proofs.reading.casm_part.Met as casm-part
 use Rattle.c_export.proofs.reading.casm_group.Met as casm-group
 use Rattle.c_export.proofs.reading.casm_channel.Met as casm-channel
 use Rattle.c_export.proofs.reading.casm_salvage.Met as casm-salvage
+use Rattle.c_export.proofs.reading.casm_entry.Met as casm-entry
+use Rattle.c_export.proofs.reading.casm_site_at.Met as casm-site-at
 use Rattle.c_export.proofs.asking.casm_plays.Met as casm-plays
 use Rattle.c_export.proofs.asking.casm_voice.Met as casm-voice
 use Rattle.c_export.proofs.asking.casm_place.Met as casm-place
@@ -21,27 +24,31 @@ use Rattle.c_export.proofs.tables.casm_write.Met as casm-write
 use Rattle.c_export.proofs.tables.casm_records.Met as casm-records
 use Rattle.c_row.specs.Rows.{recorded}
 use Rattle.c_row.specs.Flat.{tableOf}
-use Rattle.c_export.specs.Crossing.{answered, asCounted, asMeasured, asLocated, asNamed, asGrouped, asChannelled, asSpanned, asPlayed, asPlaced, overrideBy, yesNumber, checkOf}
+use Rattle.c_export.specs.Crossing.{answered, asCounted, asMeasured, asLocated, asNamed, asGrouped, asChannelled, asSpanned, asPlayed, asPlaced, asSited, overrideBy, yesNumber, checkOf}
 use Rattle.law_refusals.proofs.Calls.{casm-given, body-given, group-given, part-given, channel-given, voice-given, players-given, note-given}
 use Rattle.law_refusals.proofs.Changes.{write-given, edit-given, salvage-given}
 use Rattle.law_refusals.proofs.Kept.{buffer-kept, body-kept, list-kept}
 use Rattle.law_refusals.proofs.Nothing.{casm-nothing, body-nothing, part-nothing, channel-nothing, voice-nothing, note-nothing}
 use Rattle.law_crossing.proofs.Refused.{group-crossed-nothing, players-nobody, field-crossed-given, field-crossed-kept, rows-given, rows-kept}
+use Rattle.law_refusals.proofs.ShownExact.{section-given, section-nothing, entry-given, entry-nothing, site-given, site-nothing}
 use Rattle.law_checked.specs.Refused.{BodiesRefused, FilesRefused, GivenOf}
 use Rattle.law_checked.proofs.Answered.{says-nothing}
 use Rattle.law_checked.proofs.RefusedExact.{bodies-refused, files-refused}
 use Rattle.c_export.specs.declared.answer.Check.{Check}
-use Rattle.demands.specs.ForC.{EveryCCallEnds, FindRefuses, BodyRefuses, PartRefuses, GroupRefuses, ChannelRefuses, SalvageRefuses, PlaysRefuses, VoiceRefuses, PlaceRefuses, EditRefuses, FieldRefuses, WriteRefuses, RecordsRefuse, RefusingOf, CheckRefuses, CheckFilesRefuses}
+use Rattle.demands.specs.ForC.{EveryCCallEnds, FindRefuses, SectionAtRefuses, BodyRefuses, PartRefuses, GroupRefuses, ChannelRefuses, SalvageRefuses, EntryRefuses, SiteAtRefuses, PlaysRefuses, VoiceRefuses, PlaceRefuses, EditRefuses, FieldRefuses, WriteRefuses, RecordsRefuse, RefusingOf, CheckRefuses, CheckFilesRefuses}
 
 pub every-c-call-ends : {M : Type 1} → EveryCCallEnds M
 every-c-call-ends =
     record {
       casm-find-ends = casm-find.met;
+      casm-section-at-ends = casm-section-at.met;
       casm-body-ends = casm-body.met;
       casm-part-ends = casm-part.met;
       casm-group-ends = casm-group.met;
       casm-channel-ends = casm-channel.met;
       casm-salvage-ends = casm-salvage.met;
+      casm-entry-ends = casm-entry.met;
+      casm-site-at-ends = casm-site-at.met;
       casm-plays-ends = casm-plays.met;
       casm-voice-ends = casm-voice.met;
       casm-place-ends = casm-place.met;
@@ -55,6 +62,9 @@ every-c-call-ends =
 
 pub find-refuses : FindRefuses
 find-refuses file r p = record { given = casm-given file (asLocated r) p; nothing = casm-nothing file (asLocated r) p }
+
+pub section-at-refuses : SectionAtRefuses
+section-at-refuses file tag r p = record { given = section-given file tag (asMeasured r) p; nothing = section-nothing file tag (asMeasured r) p }
 
 pub body-refuses : BodyRefuses
 body-refuses body r p = record { given = body-given body (asCounted r) p; nothing = body-nothing body (asCounted r) p }
@@ -70,6 +80,12 @@ channel-refuses body group source r p = record { given = channel-given body grou
 
 pub salvage-refuses : SalvageRefuses
 salvage-refuses body before r after p = record { given = salvage-given body before (asCounted r) after p; nothing = list-kept body before (asCounted r) after p }
+
+pub entry-refuses : EntryRefuses
+entry-refuses entry r p = record { given = entry-given entry (asMeasured r) p; nothing = entry-nothing entry (asMeasured r) p }
+
+pub site-at-refuses : SiteAtRefuses
+site-at-refuses body place r p = record { given = site-given body place (asSited r) p; nothing = site-nothing body place (asSited r) p }
 
 pub plays-refuses : PlaysRefuses
 plays-refuses body part root type r p = record { given = players-given body part root type (asPlayed r) p; nothing = players-nobody body part root type r p }

@@ -14,3 +14,4 @@ pub mod Calls
 pub mod ForC
 pub mod ByValue
 pub mod Checking
+pub mod Showing

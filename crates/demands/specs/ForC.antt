@@ -8,7 +8,7 @@ use Rattle.layout.specs.declared.edition.Edition.the-variants.{First}
 use Rattle.layout.specs.declared.answer.Which.{Which}
 use Rattle.layout.specs.Screen.{fieldSet, changed}
 use Rattle.layout.specs.Check.{bodiesChecked, filesChecked, checked}
-use Rattle.layout.specs.Promises.{CasmFound, BodyRead, GroupFound, PartFound, ChannelFound, VoiceFound, PlaysTold, NotePlaced, GroupWritten, RecordEdited, Salvaged}
+use Rattle.layout.specs.Promises.{CasmFound, SectionRead, BodyRead, GroupFound, PartFound, ChannelFound, VoiceFound, PlaysTold, NotePlaced, GroupWritten, RecordEdited, Salvaged, EntryJudged, PlaceFound}
 use Rattle.c_row.specs.declared.row.Row.{Row}
 use Rattle.c_row.specs.Rows.{recorded, rowFor}
 use Rattle.c_row.specs.Flat.{lentRows, tableOf, RowsRead}
@@ -24,13 +24,17 @@ use Rattle.c_export.specs.declared.answer.Players.{Players}
 use Rattle.c_export.specs.declared.answer.Note.{Note}
 use Rattle.c_export.specs.declared.answer.Edited.{Edited}
 use Rattle.c_export.specs.declared.answer.Check.{Check}
-use Rattle.c_export.specs.Crossing.{answered, asCounted, asMeasured, asLocated, asNamed, asStanding, GroupCrossed, asChannelled, asSpanned, asPlayed, asPlaced, editOf, overrideBy, whichNumber, checkOf}
+use Rattle.c_export.specs.declared.answer.Site.{Site}
+use Rattle.c_export.specs.Crossing.{answered, asCounted, asMeasured, asLocated, asNamed, asStanding, GroupCrossed, asChannelled, asSpanned, asPlayed, asPlaced, asSited, editOf, overrideBy, whichNumber, checkOf}
 use Rattle.c_export.proofs.reading.casm_find.Statement as casm-find
+use Rattle.c_export.proofs.reading.casm_section_at.Statement as casm-section-at
 use Rattle.c_export.proofs.reading.casm_body.Statement as casm-body
 use Rattle.c_export.proofs.reading.casm_part.Statement as casm-part
 use Rattle.c_export.proofs.reading.casm_group.Statement as casm-group
 use Rattle.c_export.proofs.reading.casm_channel.Statement as casm-channel
 use Rattle.c_export.proofs.reading.casm_salvage.Statement as casm-salvage
+use Rattle.c_export.proofs.reading.casm_entry.Statement as casm-entry
+use Rattle.c_export.proofs.reading.casm_site_at.Statement as casm-site-at
 use Rattle.c_export.proofs.asking.casm_plays.Statement as casm-plays
 use Rattle.c_export.proofs.asking.casm_voice.Statement as casm-voice
 use Rattle.c_export.proofs.asking.casm_place.Statement as casm-place
@@ -45,16 +49,20 @@ use Rattle.law_refusals.specs.File.{FileRefused}
 use Rattle.law_refusals.specs.Body.{BodyRefused}
 use Rattle.law_refusals.specs.After.{GroupAsked, RecordsAsked, PartAsked, PlayersAsked, ChannelAsked, EditAsked}
 use Rattle.law_refusals.specs.Records.{PlaceRefused, WriteRefused, FieldRefused, SalvageRefused}
+use Rattle.law_refusals.specs.Shown.{SectionAsked, EntryAsked, PlaceAsked}
 use Rattle.law_checked.specs.Refused.{BodiesRefused, FilesRefused, GivenOf}
 
 -- "every call takes every input and ends. Callers need check nothing first"
 pub record EveryCCallEnds (M : Type 1) : Type 2 where
   pub casm-find-ends : casm-find.statement M
+  pub casm-section-at-ends : casm-section-at.statement M
   pub casm-body-ends : casm-body.statement M
   pub casm-part-ends : casm-part.statement M
   pub casm-group-ends : casm-group.statement M
   pub casm-channel-ends : casm-channel.statement M
   pub casm-salvage-ends : casm-salvage.statement M
+  pub casm-entry-ends : casm-entry.statement M
+  pub casm-site-at-ends : casm-site-at.statement M
   pub casm-plays-ends : casm-plays.statement M
   pub casm-voice-ends : casm-voice.statement M
   pub casm-place-ends : casm-place.statement M
@@ -73,6 +81,10 @@ pub record Refusing (Condition : ℕ → ℕ → Type 0) (number place : ℕ) (N
 -- casm_find
 abbrev pub FindRefuses : Type 0
 FindRefuses = (file : List ℕ) (r : Section) → CasmFound file (asLocated r) → Refusing (FileRefused file) (r .number) (r .place) ((r .tag ≡ 0) × (r .length ≡ 0))
+
+-- casm_section_at
+abbrev pub SectionAtRefuses : Type 0
+SectionAtRefuses = (file : List ℕ) (tag : ℕ) (r : Length) → SectionRead file tag (asMeasured r) → Refusing (SectionAsked file tag) (r .number) (r .place) (r .length ≡ 0)
 
 -- casm_body
 abbrev pub BodyRefuses : Type 0
@@ -100,6 +112,15 @@ abbrev pub SalvageRefuses : Type 0
 SalvageRefuses =
     (body before : List ℕ) (r : Count) (after : List ℕ) → Salvaged body before (asCounted r) after
     → Refusing (SalvageRefused body (length before)) (r .number) (r .place) ((after ≡ before) × (r .count ≡ 0))
+
+-- casm_entry
+abbrev pub EntryRefuses : Type 0
+EntryRefuses = (entry : List ℕ) (r : Length) → EntryJudged entry (asMeasured r) → Refusing (EntryAsked entry) (r .number) (r .place) (r .length ≡ 0)
+
+-- casm_site_at
+abbrev pub SiteAtRefuses : Type 0
+SiteAtRefuses =
+    (body : List ℕ) (place : ℕ) (r : Site) → PlaceFound body place (asSited r) → Refusing (PlaceAsked body place) (r .number) (r .place) ((r .group ≡ 0) × ((r .child ≡ 0) × (r .chunk ≡ 0)))
 
 -- casm_plays
 abbrev pub PlaysRefuses : Type 0

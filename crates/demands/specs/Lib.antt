@@ -14,3 +14,4 @@ pub mod Positions
 pub mod Editions
 pub mod ReadOnly
 pub mod Checking
+pub mod Showing

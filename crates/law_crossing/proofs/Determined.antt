@@ -13,9 +13,10 @@ use Rattle.layout.specs.declared.answer.Grouped.{Grouped}
 use Rattle.layout.specs.declared.answer.Channelled.{Channelled}
 use Rattle.layout.specs.declared.answer.Spanned.{Spanned}
 use Rattle.layout.specs.declared.answer.Placed.{Placed}
+use Rattle.layout.specs.declared.answer.Sited.{Sited}
 use Rattle.layout.specs.Screen.{fieldSet, changed}
 use Rattle.layout.specs.Check.{bodiesChecked, filesChecked, checked}
-use Rattle.layout.specs.Promises.{CasmFound, BodyRead, GroupFound, PartFound, ChannelFound, VoiceFound, PlaysTold, NotePlaced, RecordsRead, GroupWritten, RecordEdited, FieldSet, Salvaged}
+use Rattle.layout.specs.Promises.{CasmFound, BodyRead, GroupFound, PartFound, ChannelFound, VoiceFound, PlaysTold, NotePlaced, RecordsRead, GroupWritten, RecordEdited, FieldSet, Salvaged, SectionRead, EntryJudged, PlaceFound}
 use Rattle.c_row.specs.declared.row.Row.{Row}
 use Rattle.c_row.specs.Rows.{recorded}
 use Rattle.c_row.specs.Flat.{tableOf, RowsRead}
@@ -31,7 +32,8 @@ use Rattle.c_export.specs.declared.answer.Players.{Players}
 use Rattle.c_export.specs.declared.answer.Note.{Note}
 use Rattle.c_export.specs.declared.answer.Edited.{Edited}
 use Rattle.c_export.specs.declared.answer.Check.{Check}
-use Rattle.c_export.specs.Crossing.{answered, asCounted, asMeasured, asLocated, asNamed, asGrouped, asChannelled, asSpanned, asPlayed, asPlaced, editOf, editionTold, GroupCrossed, overrideBy, checkOf}
+use Rattle.c_export.specs.declared.answer.Site.{Site}
+use Rattle.c_export.specs.Crossing.{answered, asCounted, asMeasured, asLocated, asNamed, asGrouped, asChannelled, asSpanned, asPlayed, asPlaced, asSited, editOf, editionTold, GroupCrossed, overrideBy, checkOf}
 use Rattle.casm_by_value.specs.declared.Filled.{Filled}
 use Rattle.law_salvage.specs.Determined.{Determines, DeterminesBoth}
 use Rattle.law_salvage.proofs.Determined as face
@@ -79,6 +81,9 @@ boundsTold a = bounds a (editionTold (a .group .edition) (a .group .records))
 bounds-told : (body : List ℕ) (group : ℕ) (r : Bounds) → GroupCrossed body group r → r ≡ boundsTold (asGrouped r)
 bounds-told body group r p = ap (bounds (asGrouped r)) (p .edition)
 
+abbrev site : Sited → Site
+site a = record { number = a .number; place = a .place; group = a .group; child = a .child; chunk = a .chunk }
+
 abbrev position : Channelled → Position
 position a = record { number = a .number; place = a .place; «record» = a .row; at = a .at }
 
@@ -105,6 +110,15 @@ casm-group body group x y p q =
 
 pub casm-channel : (body : List ℕ) (group source : ℕ) → Determines (λ (r : Position). ChannelFound body group source (asChannelled r))
 casm-channel body group source = crossing-determines asChannelled position (λ x. refl) (ChannelFound body group source) (face.channel-found body group source)
+
+pub casm-section-at : (file : List ℕ) (tag : ℕ) → Determines (λ (r : Length). SectionRead file tag (asMeasured r))
+casm-section-at file tag = crossing-determines asMeasured size (λ x. refl) (SectionRead file tag) (face.section-read file tag)
+
+pub casm-entry : (entry : List ℕ) → Determines (λ (r : Length). EntryJudged entry (asMeasured r))
+casm-entry entry = crossing-determines asMeasured size (λ x. refl) (EntryJudged entry) (face.entry-judged entry)
+
+pub casm-site-at : (body : List ℕ) (place : ℕ) → Determines (λ (r : Site). PlaceFound body place (asSited r))
+casm-site-at body place = crossing-determines asSited site (λ x. refl) (PlaceFound body place) (face.place-found body place)
 
 pub casm-voice : (body : List ℕ) (group source : ℕ) → Determines (λ (r : Span). VoiceFound body group source (asSpanned r))
 casm-voice body group source = crossing-determines asSpanned span (λ x. refl) (VoiceFound body group source) (face.voice-found body group source)

@@ -33,3 +33,4 @@ pub mod Nothing
 pub mod Parts
 pub mod Sound
 pub mod Reasons
+pub mod ShownExact

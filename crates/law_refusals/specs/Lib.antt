@@ -8,3 +8,4 @@ pub mod After
 pub mod Before
 pub mod Records
 pub mod Salvage
+pub mod Shown

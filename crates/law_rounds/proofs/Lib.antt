@@ -38,3 +38,6 @@ pub mod Renumbered
 pub mod Rearranged
 pub mod OneEdition
 pub mod LockedStays
+pub mod ChunksLaid
+pub mod ChunksWalked
+pub mod SitesRead

@@ -8,7 +8,7 @@ use Rattle.layout.specs.declared.lock.Override.{Override}
 use Rattle.layout.specs.declared.record.Record.{Record}
 use Rattle.layout.specs.declared.record.SecondTable.{SecondTable}
 use Rattle.layout.specs.Promises.{CasmFound, SectionShown, BodyRead, GroupFound, PartFound, ChannelFound, TextShown, RecordsRead, VoiceShown, VoiceFound}
-use Rattle.layout.specs.Promises.{PlaysTold, NotePlaced, GroupWritten, RecordEdited, FieldSet, FieldSetInPlace, Salvaged, RecordMade, EditionTold, BytesTold, BodiesChecked, FilesChecked}
+use Rattle.layout.specs.Promises.{PlaysTold, NotePlaced, GroupWritten, RecordEdited, FieldSet, FieldSetInPlace, Salvaged, RecordMade, EditionTold, BytesTold, BodiesChecked, FilesChecked, SectionRead, EntryJudged, PlaceFound}
 use Rattle.layout.specs.Listing.{listText, FileListed}
 use Rattle.law_salvage.specs.Determined.{Determines, DeterminesBoth}
 
@@ -62,6 +62,15 @@ edition-told r = equation _
 
 pub bytes-told : (r : Record) → Determines (BytesTold r)
 bytes-told r = equation _
+
+pub section-read : (file : List ℕ) (tag : ℕ) → Determines (SectionRead file tag)
+section-read file tag = equation _
+
+pub entry-judged : (entry : List ℕ) → Determines (EntryJudged entry)
+entry-judged entry = equation _
+
+pub place-found : (body : List ℕ) (place : ℕ) → Determines (PlaceFound body place)
+place-found body place = equation _
 
 pub bodies-checked : (before after : List ℕ) (group channel : ℕ) → Determines (BodiesChecked before after group channel)
 bodies-checked before after group channel = equation _

@@ -1,6 +1,7 @@
 // The groups of an accepted body: one by its number, one by the name of a part; and a record by its source channel.
 pub mod look;
 pub mod row;
+pub mod site;
 
 ghost use mathlib.Core.Path.{_≡_};
 ghost use Prim.Native.Nat.{_+_, _≤_};

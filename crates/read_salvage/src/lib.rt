@@ -1,13 +1,15 @@
-// The salvage list (document 01, "The salvage list"): a damaged body in pieces, what is sound kept apart from what is not.
+// The salvage list (document 01, "The salvage list"): a damaged body in pieces, what is sound kept apart from what is not; and one entry by its bytes alone.
 ghost use mathlib.Core.Path.{_≡_};
 ghost use mathlib.Core.Bool.{true, cond};
 ghost use Prim.Native.Nat.{_+_, _*_, _/_, _≤_, _<_};
 ghost use lib.Dec.{leb};
 ghost use lib.ListN.{length, drop};
-ghost use Rattle.layout.specs.Promises.{Salvaged};
+ghost use Rattle.layout.specs.Promises.{Salvaged, EntryJudged};
+ghost use Rattle.layout.specs.Answers.{refused, sized};
 ghost use Rattle.layout.specs.Salvage.{cseg, salvage};
 ghost use Rattle.read_salvage.specs.Entries.{Skip, Next, PieceLed, EntryAt, entryPut, listAfter};
 use layout::answer::Counted;
+use layout::answer::Measured;
 use layout::limit::BODY;
 use layout::refusal::BAD_TAG;
 use layout::refusal::NO_ROOM;
@@ -166,5 +168,46 @@ pub fn list_salvage(body: &[u8], list: &mut [usize]) -> Counted
         number: 0,
         place: 0,
         count: n,
+    }
+}
+
+// An entry that is refused.
+fn refusal(number: u8, place: usize) -> Measured
+    ensures { λ r. ⌜ r ≡ sized (refused number place) ⌝ }
+{
+    Measured {
+        number: number,
+        place: place,
+        length: 0,
+    }
+}
+
+// Whether CSEG stands at the start.
+fn begins(entry: &[u8]) -> bool
+    ensures { λ r. ⌜ r ≡ cseg (now (entry .entry)) ⌝ }
+{
+    if entry.len() < 4 {
+        return false;
+    }
+    is_cseg(entry, 0)
+}
+
+// An entry by its bytes alone: the size of the group that stands at its start, or the refusal, whose place counts from the entry's start.
+pub fn judge_entry(entry: &[u8]) -> Measured
+    ensures { λ r. ⌜ EntryJudged (now (entry .entry)) r ⌝ }
+{
+    if BODY < entry.len() {
+        return refusal(OVER_LIMIT, 0);
+    }
+    if !begins(entry) {
+        return refusal(BAD_TAG, 0);
+    }
+    match read_group::judge_group(entry) {
+        Judged::Unsound(number, place) => refusal(number, place),
+        Judged::Sound(_, text, n, m) => Measured {
+            number: 0,
+            place: 0,
+            length: 8 + read_bytes::word_at(entry, 4),
+        },
     }
 }

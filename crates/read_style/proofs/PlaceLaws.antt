@@ -66,7 +66,7 @@ module _ (s : List ℕ) (style : noStyle s ≡ false) where
   sections-refuse number place e =
       run-stopped (sectionTurn s) Kept next (λ a b. Refusing s a b) (λ n a b held m. subst Turned m (turn-known n (sectionPlace s n) (held .within))) (length s) number place start e
 
-  sections-fit : (n : ℕ) → sectionsRun s ≡ Ended n → Fit s n
+  pub sections-fit : (n : ℕ) → sectionsRun s ≡ Ended n → Fit s n
   unfolding sectionsRun
   sections-fit n e = run-ended (sectionTurn s) Kept next (length s) n start e .0 .fit
 

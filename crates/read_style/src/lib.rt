@@ -1,15 +1,16 @@
-// The CASM section of a style file (document 01, "The style file"): found in one walk over the sections.
+// The sections of a style file (document 01, "The style file"): the CASM section, found in one walk over them, and one by the place of its tag.
 ghost use mathlib.Core.Bool.{cond};
 ghost use mathlib.Core.Path.{_≡_};
 ghost use Prim.Native.Nat.{_+_, _<_, _≤_};
 ghost use lib.Dec.{ltb};
 ghost use lib.ListN.{length};
-ghost use Rattle.layout.specs.Answers.{refused};
+ghost use Rattle.layout.specs.Answers.{refused, sized};
 ghost use Rattle.layout.specs.Bytes.{word, four, tagged, CASM};
 ghost use Rattle.layout.specs.Style.{noStyle, sectionTagged, sectionTurnAt, located};
-ghost use Rattle.layout.specs.Promises.{CasmFound};
+ghost use Rattle.layout.specs.Promises.{CasmFound, SectionRead};
 ghost use Rattle.read_style.specs.Walk.{Fit, Walked, SectionsRead};
 use layout::answer::Located;
+use layout::answer::Measured;
 use layout::limit::BODY;
 use layout::limit::FILE;
 use layout::refusal::CUT;
@@ -168,5 +169,37 @@ pub fn find_casm(file: &[u8]) -> Located
         place: 0,
         tag: casm,
         length: size,
+    }
+}
+
+// A section that is cut: its header, or its body.
+fn cut(tag: usize) -> Measured
+    ensures { λ r. ⌜ r ≡ sized (refused 2 tag) ⌝ }
+{
+    Measured {
+        number: CUT,
+        place: tag,
+        length: 0,
+    }
+}
+
+// A section by the place of its tag, the leading MThd and MTrk too: the length of its body.
+pub fn read_section(file: &[u8], tag: usize) -> Measured
+    ensures { λ r. ⌜ SectionRead (now (file .entry)) tag r ⌝ }
+{
+    if file.len() < 8 {
+        return cut(tag);
+    }
+    if file.len() - 8 < tag {
+        return cut(tag);
+    }
+    let length = read_bytes::word_at(file, tag + 4);
+    if file.len() - 8 - tag < length {
+        return cut(tag);
+    }
+    Measured {
+        number: 0,
+        place: 0,
+        length: length,
     }
 }

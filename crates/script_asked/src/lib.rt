@@ -29,15 +29,21 @@ pub const CHECKED: usize = 8;
 
 pub const CHECKEDFILE: usize = 9;
 
-pub const GROUP: usize = 10;
+pub const SECTION: usize = 10;
 
-pub const PLACE: usize = 11;
+pub const ENTRY: usize = 11;
 
-pub const SCREEN: usize = 12;
+pub const SITE: usize = 12;
 
-pub const WRITE: usize = 13;
+pub const GROUP: usize = 13;
 
-pub const EDIT: usize = 14;
+pub const PLACE: usize = 14;
+
+pub const SCREEN: usize = 15;
+
+pub const WRITE: usize = 16;
+
+pub const EDIT: usize = 17;
 
 // A line's verb; how many bytes its BYTES are, and its NAME or AFTER; its numbers; and the place behind these words, NONE where one is not what the verb asks for.
 pub struct Asked {
@@ -55,18 +61,18 @@ struct Worth {
     at: usize,
 }
 
-// The number of the verb that a word is, or 15.
+// The number of the verb that a word is, or 18.
 fn verb_of(word: &[u8]) -> usize {
     position(
         word,
-        b"find body part plays where salvage channel voice checked checkedfile group place screen write edit",
+        b"find body part plays where salvage channel voice checked checkedfile section entry site group place screen write edit",
     )
 }
 
 // The most that the first number behind a verb may be, or 0 where it has none.
 fn most_one(verb: usize) -> usize {
     match verb {
-        FIND | BODY | PART => 0,
+        FIND | BODY | PART | ENTRY => 0,
         PLAYS | PLACE => 255,
         _ => 4294967295,
     }
@@ -75,7 +81,7 @@ fn most_one(verb: usize) -> usize {
 // The same for the second.
 fn most_two(verb: usize) -> usize {
     match verb {
-        FIND | BODY | PART | WHERE | SALVAGE => 0,
+        FIND | BODY | PART | WHERE | SALVAGE | SECTION | ENTRY | SITE => 0,
         GROUP => 32,
         WRITE => 4294967295,
         _ => 255,

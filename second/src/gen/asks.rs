@@ -82,7 +82,7 @@ pub fn common_lists(bodies: &Bodies) -> [&[Vec<u8>]; 8] {
 }
 
 /// All of the catalogue.
-fn all_lists(bodies: &Bodies) -> [&[Vec<u8>]; 9] {
+pub fn all_lists(bodies: &Bodies) -> [&[Vec<u8>]; 9] {
     [
         &bodies.faults,
         &bodies.meetings,

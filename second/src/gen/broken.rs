@@ -11,11 +11,12 @@ fn tokens(verb: &str) -> Vec<String> {
     let group = "4353454700000009536465630000000141";
     let file = "4d546864000000060000000100604d54726b000000004341534d00000000";
     let words: Vec<&str> = match verb {
-        "find" | "body" => vec![group],
+        "find" | "body" | "entry" => vec![group],
         "group" => vec![group, "0", "3"],
         "voice" | "channel" => vec![group, "0", "4"],
         "part" => vec![group, "41"],
-        "where" => vec![group, "0"],
+        "where" | "site" => vec![group, "0"],
+        "section" => vec![file, "0"],
         "plays" => vec![group, "41", "0", "0"],
         "checked" => vec![group, group, "0", "4"],
         "checkedfile" => vec![file, file, "0", "4"],

@@ -13,12 +13,15 @@ use crate::gen::ctb2_bodies::other;
 use crate::gen::ctb2_faults;
 use crate::gen::dice::Dice;
 use crate::gen::draft::{body_bytes, Draft};
+use crate::gen::entries;
 use crate::gen::faults::{further, principal, Fault, GREAT_LENGTHS};
 use crate::gen::file_checks::somehow_around;
 use crate::gen::locks::{some_lock, some_override};
 use crate::gen::lookups::every_record;
 use crate::gen::narrow;
 use crate::gen::positions::{number_somehow, some_position, spoil};
+use crate::gen::sections;
+use crate::gen::sites;
 use crate::gen::sound;
 use crate::gen::spell::{rec, spell, spell_oddly, Line};
 use crate::group::Group;
@@ -86,6 +89,9 @@ impl Mixture {
             "channel" => self.channel(),
             "checked" => self.checked(),
             "checkedfile" => self.checkedfile(),
+            "section" => self.section(),
+            "entry" => self.entry(),
+            "site" => self.site(),
             _ => self.salvage(),
         }
         .into_bytes();
@@ -240,6 +246,12 @@ impl Mixture {
     }
 
     fn find(&mut self) -> String {
+        let file = self.file();
+        format!("find {}", self.spelled(&file))
+    }
+
+    /// A style file: sound, with a length that lies, with changed bytes, or with loose ones behind.
+    fn file(&mut self) -> Vec<u8> {
         let mut body = Vec::new();
         if self.dice.percent(30) {
             body = self.body();
@@ -262,7 +274,7 @@ impl Mixture {
             let length = self.dice.between(1, 9);
             bytes.extend(vec![0x4D; length]);
         }
-        format!("find {}", self.spelled(&bytes))
+        bytes
     }
 
     /// A group number that mostly is there, and the source channels of that group.
@@ -601,8 +613,14 @@ impl Mixture {
         }
     }
 
-    /// Sound groups, damaged ones and loose bytes in a row.
     fn salvage(&mut self) -> String {
+        let body = self.salvaged_body();
+        let room = self.dice.pick(&[40, 40, 200, 8_192, 0, 1, 2, 3, 4]);
+        format!("salvage {} {room}", self.spelled(&body))
+    }
+
+    /// Sound groups, damaged ones and loose bytes in a row.
+    fn salvaged_body(&mut self) -> Vec<u8> {
         let mut body = self.body();
         for _ in 0..self.dice.below(3) {
             match self.dice.below(4) {
@@ -614,7 +632,59 @@ impl Mixture {
         }
         body.truncate(4_000);
         self.fill(&mut body, BODY_LIMIT);
-        let room = self.dice.pick(&[40, 40, 200, 8_192, 0, 1, 2, 3, 4]);
-        format!("salvage {} {room}", self.spelled(&body))
+        body
+    }
+
+    fn section(&mut self) -> String {
+        let file = self.file();
+        let at = sections::some_place(&mut self.dice, &file);
+        format!("section {} {at}", self.spelled(&file))
+    }
+
+    fn entry(&mut self) -> String {
+        let piece = self.piece();
+        format!("entry {}", self.spelled(&piece))
+    }
+
+    /// An entry of a body's list, or a group alone, mostly with a fault and at times with a body
+    /// behind it; now and then with changed bytes.
+    fn piece(&mut self) -> Vec<u8> {
+        let mut piece = if self.dice.percent(35) {
+            let body = match self.dice.percent(30) {
+                true => self.salvaged_body(),
+                false => self.body(),
+            };
+            entries::some_piece(&mut self.dice, &body)
+        } else {
+            self.lone_group()
+        };
+        if self.dice.percent(4) {
+            self.change(&mut piece);
+        }
+        self.fill(&mut piece, BODY_LIMIT);
+        piece
+    }
+
+    fn lone_group(&mut self) -> Vec<u8> {
+        let edition = sound::some_edition(&mut self.dice);
+        let mut group = [sound::group(&mut self.dice, edition, &mut HashSet::new())];
+        if self.dice.percent(80) {
+            self.put_fault(&mut group);
+        }
+        let mut bytes = body_bytes(&group);
+        if self.dice.percent(20) {
+            bytes.extend(self.body());
+        }
+        bytes
+    }
+
+    fn site(&mut self) -> String {
+        let bytes = match self.dice.below(10) {
+            0..=2 => self.piece(),
+            3..=6 => self.salvaged_body(),
+            _ => self.asked_body(),
+        };
+        let place = sites::some_place(&mut self.dice, &bytes);
+        format!("site {} {place}", self.spelled(&bytes))
     }
 }

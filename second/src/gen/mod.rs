@@ -15,6 +15,7 @@ pub mod ctb2_place;
 pub mod dice;
 pub mod draft;
 pub mod edits;
+pub mod entries;
 pub mod families;
 pub mod faults;
 pub mod file_checks;
@@ -26,6 +27,8 @@ pub mod mixture;
 pub mod narrow;
 pub mod positions;
 pub mod records;
+pub mod sections;
+pub mod sites;
 pub mod sound;
 pub mod spell;
 pub mod styles;
@@ -67,7 +70,10 @@ impl Script {
             let mut aside = dice.aside();
             let lines = match verb {
                 "checked" => checks::checked(&mut aside),
-                _ => file_checks::checkedfile(&mut aside),
+                "checkedfile" => file_checks::checkedfile(&mut aside),
+                "section" => sections::section(&mut aside),
+                "entry" => entries::entry(&mut aside),
+                _ => sites::site(&mut aside),
             };
             catalogues.push((verb, mixed(lines, broken::broken(verb))));
         }

@@ -2,12 +2,14 @@
 #![allow(dead_code)]
 
 pub mod answered;
+pub mod asked;
 pub mod checked_bodies;
 pub mod checks;
 pub mod chunks;
 pub mod note_kinds;
 pub mod place_kinds;
 pub mod reached;
+pub mod readings;
 
 use second::gen::cntts::at_position;
 use second::record::{First, Record};
