@@ -6,7 +6,7 @@ use native.Mathlib.Numerals.{add-one}
 use mathlib.Core.Path.{_≡_, refl, sym, ap, _∙_}
 use mathlib.Core.Bool.{Bool, true, false, cond}
 use mathlib.Core.List.{List}
-use lib.Dec.{ltb, leb}
+use lib.Dec.{ltb}
 use lib.ListN.{length, take, drop, length-take, length-drop}
 use borrow.Author.Tests.{lt-ltb, le-ltb, lt-leb, le-leb}
 use Rattle.layout.specs.Scan.{first}
@@ -47,29 +47,28 @@ module _ (s : List ℕ) (at : ℕ) where
       go true = omega arith
       go false = omega arith
 
-  -- a place in a chunk whose header is cut
-  pub ends-cut : (place : ℕ) → place < at + 8 → leb (at + stepAt s at) place ≡ false
-  ends-cut place h = lt-leb (at + stepAt s at) place (omega (arith, step-least))
+  -- from its tag and its length
+  pub step-is : (b : Bool) (l step : ℕ) → b ≡ tagged s at CSEG → l ≡ word s (at + 4) → step ≡ cond b 8 (8 + l) → step ≡ stepAt s at
+  unfolding stepAt
+  step-is b l step t e f = f ∙ rw (t, e)
 
--- the same, counted from the chunk's tag
-pub ends-from : (at place step : ℕ) → at ≤ place → leb step (place - at) ≡ leb (at + step) place
-ends-from at place step h = go (decLt place (at + step))
-  where
-    go : Dec (place < at + step) → leb step (place - at) ≡ leb (at + step) place
-    go (yes l) = lt-leb step (place - at) (omega arith) ∙ sym (lt-leb (at + step) place l)
-    go (no l) = le-leb step (place - at) (omega arith) ∙ sym (le-leb (at + step) place (omega arith))
+-- ---- the counts
 
-pub counted-group : (s : List ℕ) (at groups : ℕ) → tagged s at CSEG ≡ true → groups + 1 ≡ groups + cond (tagged s at CSEG) 1 0
-counted-group s at groups h = rw h
+pub counted-group : (b : Bool) (groups : ℕ) → b ≡ true → groups + 1 ≡ groups + cond b 1 0
+counted-group b groups h = rw h
 
-pub counted-none : (s : List ℕ) (at groups : ℕ) → tagged s at CSEG ≡ false → groups ≡ groups + cond (tagged s at CSEG) 1 0
-counted-none s at groups h = rw h (omega arith)
+pub counted-none : (b : Bool) (groups : ℕ) → b ≡ false → groups ≡ groups + cond b 1 0
+counted-none b groups h = rw h (omega arith)
 
-pub child-group : (s : List ℕ) (at child : ℕ) → tagged s at CSEG ≡ true → 0 ≡ cond (tagged s at CSEG) 0 (child + 1)
-child-group s at child h = rw h
+pub rank-group : (b : Bool) (rank : ℕ) → b ≡ true → 1 ≡ cond b 0 rank + 1
+rank-group b rank h = rw h
 
-pub child-more : (s : List ℕ) (at child : ℕ) → tagged s at CSEG ≡ false → child + 1 ≡ cond (tagged s at CSEG) 0 (child + 1)
-child-more s at child h = rw h
+pub rank-more : (b : Bool) (rank : ℕ) → b ≡ false → rank + 1 ≡ cond b 0 rank + 1
+rank-more b rank h = rw h
+
+pub rank-most : (b : Bool) (rank : ℕ) → cond b 0 rank ≤ rank
+rank-most true rank = omega arith
+rank-most false rank = omega arith
 
 -- ---- the walk
 
@@ -136,12 +135,46 @@ module _ (s : List ℕ) (place at n groups child : ℕ) (w : OnWay s place at n 
       go (yes l) = w .rest ∙ first-here (λ k. ltb place (chunkPlace s (suc k))) n place l (lt-ltb place (chunkPlace s (suc n)) (rw next-place h))
       go (no l) = w .rest ∙ first-end (λ k. ltb place (chunkPlace s (suc k))) n place (omega (arith, w .far, w .before))
 
-  pub on-end : (group : ℕ) → place < at + stepAt s at → group ≡ groups - 1
-      → record { number = 0; place = 0; group = group; child = child; chunk = at } ≡ sited (granted (siteNo s (chunkOf s place)))
-  unfolding sited numberOf placeOf valueOr
-  on-end group h e = rw (last-is h) (rw (e, w .begun, w .number, w .chunk))
+  pub on-end : place < at + stepAt s at → sited (granted (record { group = groups - 1; child = child; chunk = at })) ≡ sited (granted (siteNo s (chunkOf s place)))
+  on-end h = rw (last-is h) (rw (w .begun, w .number, w .chunk))
+
+-- ---- the walk, with what was counted before its chunk
+
+-- so many groups began before chunk number n, and this is its number in its group, unless it begins one
+pub record Before (s : List ℕ) (place at n groups rank : ℕ) : Type 0 where
+  pub on : OnWay s place at n (groups + cond (tagged s at CSEG) 1 0) (cond (tagged s at CSEG) 0 rank)
+  pub low : rank ≤ n
+
+pub before-start : (s : List ℕ) (place : ℕ) → Before s place 0 0 0 0
+before-start s place = record { on = rw (none (tagged s 0 CSEG)) (on-start s place (0 + cond (tagged s 0 CSEG) 1 0) refl); low = omega arith }
+  where
+    none : (b : Bool) → _≡_ {A = ℕ} (cond b 0 0) 0
+    none true = refl
+    none false = refl
+
+module _ (s : List ℕ) (place at n groups rank : ℕ) (w : Before s place at n groups rank) where
+  -- a chunk that is passed over is counted
+  pub before-next : (step groups' rank' : ℕ) → step ≡ stepAt s at → at + step ≤ place
+      → groups' ≡ groups + cond (tagged s at CSEG) 1 0 → rank' ≡ cond (tagged s at CSEG) 0 rank + 1 → Before s place (at + step) (n + 1) groups' rank'
+  before-next step groups' rank' e h f g =
+      record {
+        on =
+            on-next s place at n (groups + cond (tagged s at CSEG) 1 0) (cond (tagged s at CSEG) 0 rank) (w .on) step
+            (groups' + cond (tagged s (at + step) CSEG) 1 0) (cond (tagged s (at + step) CSEG) 0 rank') e h (rw f) (rw g);
+        low = omega (arith, g, w .low, rank-most (tagged s at CSEG) rank);
+      }
+
+  -- the last one is counted where the answer is made
+  pub before-end : place < at + stepAt s at
+      → sited (granted (record { group = groups + cond (tagged s at CSEG) 1 0 - 1; child = cond (tagged s at CSEG) 0 rank; chunk = at })) ≡ sited (granted (siteNo s (chunkOf s place)))
+  before-end h = on-end s place at n (groups + cond (tagged s at CSEG) 1 0) (cond (tagged s at CSEG) 0 rank) (w .on) h
 
 -- ---- the ways out
+
+pub site-is : (group child at g c : ℕ) → group ≡ g → child ≡ c
+    → record { number = 0; place = 0; group = group; child = child; chunk = at } ≡ sited (granted (record { group = g; child = c; chunk = at }))
+unfolding sited numberOf placeOf valueOr
+site-is group child at g c e f = rw (e, f)
 
 module _ (s : List ℕ) (place : ℕ) where
   pub site-over : 32768 < length s → sited (refused 3 0) ≡ sited (siteOf s place)

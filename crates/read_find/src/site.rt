@@ -2,11 +2,10 @@
 ghost use mathlib.Core.Path.{_≡_};
 ghost use Prim.Native.Nat.{_+_, _-_, _≤_, _<_};
 ghost use mathlib.Core.Bool.{cond};
-ghost use lib.Dec.{leb};
 ghost use lib.ListN.{length};
 ghost use Rattle.layout.specs.Bytes.{tagged, CSEG as CSEGTAG};
 ghost use Rattle.layout.specs.Answers.{refused, granted};
-ghost use Rattle.layout.specs.Chunks.{stepAt, chunkOf, siteNo, sited};
+ghost use Rattle.layout.specs.Chunks.{chunkOf, siteNo, sited};
 ghost use Rattle.layout.specs.Promises.{PlaceFound};
 use layout::answer::Sited;
 use layout::limit::BODY;
@@ -37,48 +36,45 @@ fn refusal(number: u8) -> Sited
     }
 }
 
-// How far behind the chunk at `at` the next one stands: a group's header leads to its chunks, any other chunk is passed over whole.
-fn step_at(s: &[u8], at: usize) -> usize
-    requires { ⌜ at + 8 ≤ length (now s) ⌝ }
-    ensures { λ r. ⌜ r ≡ stepAt (now (s .entry)) at ⌝ }
+// How far behind a chunk the next one stands: a group's header leads to its chunks, any other chunk is passed over whole.
+fn step_of(begins: bool, whole: usize) -> usize
+    ensures { λ r. ⌜ r ≡ cond begins 8 whole ⌝ }
 {
-    let whole = 8 + read_bytes::word_at(s, at + 4);
-    if is_group(s, at) {
+    if begins {
         return 8;
     }
     whole
 }
 
-// Whether the chunk at `at` ends before a place.
-fn ends_before(s: &[u8], at: usize, place: usize) -> bool
-    requires { ⌜ (at ≤ place) × (place < length (now s)) ⌝ }
-    ensures { λ r. ⌜ r ≡ leb (at + stepAt (now (s .entry)) at) place ⌝ }
+// How many groups began, with a chunk that begins one or not, where so many began before it.
+fn groups_with(begins: bool, groups: usize) -> usize
+    requires { ⌜ groups ≤ 32768 ⌝ }
+    ensures { λ r. ⌜ r ≡ groups + cond begins 1 0 ⌝ }
 {
-    if s.len() - at < 8 {
-        return false;
-    }
-    step_at(s, at) <= place - at
-}
-
-// How many groups began, with the chunk at `at`, where so many began before it.
-fn groups_with(s: &[u8], at: usize, groups: usize) -> usize
-    requires { ⌜ (at ≤ length (now s)) × (groups ≤ 32768) ⌝ }
-    ensures { λ r. ⌜ r ≡ groups + cond (tagged (now (s .entry)) at CSEGTAG) 1 0 ⌝ }
-{
-    if is_group(s, at) {
+    if begins {
         return groups + 1;
     }
     groups
 }
 
-// The number in its group of the chunk at `at`, where the chunk before it has this one.
-fn child_after(s: &[u8], at: usize, child: usize) -> usize
-    requires { ⌜ (at ≤ length (now s)) × (child ≤ 32768) ⌝ }
-    ensures { λ r. ⌜ r ≡ cond (tagged (now (s .entry)) at CSEGTAG) 0 (child + 1) ⌝ }
+// The number in its group of a chunk that begins one or not: a group's header is number 0.
+fn child_of(begins: bool, rank: usize) -> usize
+    ensures { λ r. ⌜ r ≡ cond begins 0 rank ⌝ }
 {
-    let next = child + 1;
-    if is_group(s, at) {
+    if begins {
         return 0;
+    }
+    rank
+}
+
+// The number that the chunk behind one has in its group, unless it begins one itself.
+fn rank_behind(begins: bool, rank: usize) -> usize
+    requires { ⌜ rank ≤ 32768 ⌝ }
+    ensures { λ r. ⌜ r ≡ cond begins 0 rank + 1 ⌝ }
+{
+    let next = rank + 1;
+    if begins {
+        return 1;
     }
     next
 }
@@ -93,28 +89,44 @@ fn last_of(groups: usize) -> usize
     0
 }
 
-// The chunk that has a place, from chunk to chunk; the one at `at` is number n.
+// What is told of the chunk at `at`, where so many groups began before it and it has this number in its group, unless it begins one.
+fn told(s: &[u8], at: usize, groups: usize, rank: usize) -> Sited
+    requires { ⌜ (at ≤ length (now s)) × (groups ≤ 32768) ⌝ }
+    ensures { λ r. ⌜ r ≡ sited (granted (record { group = groups + cond (tagged (now (s .entry)) at CSEGTAG) 1 0 - 1; child = cond (tagged (now (s .entry)) at CSEGTAG) 0 rank; chunk = at })) ⌝ }
+{
+    let begins = is_group(s, at);
+    Sited {
+        number: 0,
+        place: 0,
+        group: last_of(groups_with(begins, groups)),
+        child: child_of(begins, rank),
+        chunk: at,
+    }
+}
+
+// The chunk that has a place, from chunk to chunk; the one at `at` is number n. A place within 8 bytes of a chunk's beginning is in that chunk; where it is not, all of the header is there.
+// So each chunk that is passed over is asked once for its tag and once for its length.
 fn walk(s: &[u8], place: usize) -> Sited
     requires { ⌜ (place < length (now s)) × (length (now s) ≤ 32768) ⌝ }
     ensures { λ r. ⌜ r ≡ sited (granted (siteNo (now (s .entry)) (chunkOf (now (s .entry)) place))) ⌝ }
 {
     let mut at: usize = 0;
     let mut n: usize = 0;
-    let mut groups = groups_with(s, 0, 0);
-    let mut child: usize = 0;
-    while ends_before(s, at, place) {
-        at += step_at(s, at);
-        groups = groups_with(s, at, groups);
-        child = child_after(s, at, child);
+    let mut groups: usize = 0;
+    let mut rank: usize = 0;
+    while 8 <= place - at {
+        let begins = read_bytes::is_tagged(s, at, CSEG);
+        let whole = 8 + read_bytes::word_at(s, at + 4);
+        let step = step_of(begins, whole);
+        if place - at < step {
+            return told(s, at, groups, rank);
+        }
+        at += step;
+        groups = groups_with(begins, groups);
+        rank = rank_behind(begins, rank);
         n += 1;
     }
-    Sited {
-        number: 0,
-        place: 0,
-        group: last_of(groups),
-        child: child,
-        chunk: at,
-    }
+    told(s, at, groups, rank)
 }
 
 // What stands at a place of a body, or of an entry of its salvage list: the number of the group, the number of the chunk in it, and the place of the chunk's tag.
