@@ -1,5 +1,6 @@
 // Reads a script on standard input and prints one answer line for each line of it. A line is taken apart, one call of the library is
 // made, and what came back is printed; no rule of the format stands here.
+#![tactic(auto)]
 use calls_lines::answer_step;
 use script_lines::{DONE, TEXT};
 use script_text::print;

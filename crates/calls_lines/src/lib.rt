@@ -1,4 +1,5 @@
 // A line of a script is answered by the verb that it begins with. `room` and `name` hold its BYTES and its NAME.
+#![tactic(auto)]
 ghost use Rattle.std.specs.Prelude.{◌≤◌};
 ghost use Rattle.script_lines.specs.Reading.{InText};
 

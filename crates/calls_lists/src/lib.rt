@@ -1,4 +1,5 @@
 // The verb `salvage`: the call on a lent list, three numbers an entry (place, length, kind), and whether the rest of the list was kept.
+#![tactic(auto)]
 ghost use Rattle.std.specs.Prelude.{◌≤◌, length};
 
 use casm::list::list_salvage;

@@ -1,1 +1,3 @@
 // Theorems about checking what other editors return (document 02, §13).
+
+#![tactic(auto)]

@@ -1,1 +1,3 @@
 // Theorems about the definitions: they stand in proofs/.
+
+#![tactic(auto)]

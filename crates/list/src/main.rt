@@ -1,4 +1,5 @@
 // Prints the salvage list of a style file's CASM body (document 01, "Marked examples": the program `list`): reads standard input, and writes the text that `list_text` makes of it.
+#![tactic(auto)]
 use list_text::{TEXT, list_file};
 
 // A file of at most 65,536 bytes; one byte more shows that there is more.

@@ -1,5 +1,7 @@
 // Groups by the names of their parts: the first that has a name, and the first that has a name of one before it (document 01, "Strict body": 13).
 // Names are compared where they lie. Each name met is known again by its mark, so that few are compared with those of the groups before.
+#![tactic(auto)]
+
 ghost use Rattle.std.specs.Prelude.{◌≡◌, false, ◌+◌, ◌≤◌, ◌<◌, ltb, length};
 ghost use Rattle.layout.specs.Body.{group_place, text_at};
 ghost use Rattle.layout.specs.Asked.{group_named};

@@ -139,7 +139,7 @@ module _ (t : List ℕ) where
 
       pub text_size : inside (1 to 16) (e - i) ≡ false → sound_text t ≡ false
       unfolding every
-      text_size h = text_names (rw (cut_here, every_append, s.sizes, every, part_length t i e n.within, h))
+      text_size h = text_names (rw (cut_here, every_append, s.sizes, part_length t i e n.within, h))
 
       pub text_again : has (cuts t 0 es) (part t i e) ≡ true → sound_text t ≡ false
       text_again h =
@@ -153,7 +153,7 @@ module _ (t : List ℕ) where
           record {
             cut = cut_here ∙ rw (g, append_assoc) refl;
             bytes = s.bytes ∙ b;
-            sizes = rw (g, every_append, s.sizes, every, part_length t i e n.within) (rw (inside_yes 1 16 (e - i) h k));
+            sizes = rw (g, every_append, s.sizes, part_length t i e n.within) (rw (inside_yes 1 16 (e - i) h k));
             apart = rw g (distinct_more (cuts t 0 es) (part t i e) s.apart f);
             placed = placed_grow (length t) es 0 e s.placed (omega (arith, s.here, n.from)) n.within;
             here = next_grow es 0 e;

@@ -1,4 +1,6 @@
 // The text of an Sdec and its names (document 01, "The CASM body": Sdec), judged and compared where they lie: no name is copied.
+#![tactic(auto)]
+
 ghost use Rattle.std.specs.Prelude.{◌≡◌, false, ◌^◌, ◌<◌, ◌≤◌, length, take};
 ghost use Rattle.layout.specs.Lists.{same, has};
 ghost use Rattle.layout.specs.Sdec.{names, sound_text};

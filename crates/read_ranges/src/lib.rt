@@ -1,4 +1,6 @@
 // The one table of ranges of each edition, for reader, writer and screen, and the values of a Cntt (document 01, "The CASM body").
+#![tactic(auto)]
+
 pub mod columns;
 pub mod ctab;
 pub mod ctb2;

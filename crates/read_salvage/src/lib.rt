@@ -1,4 +1,5 @@
 // The salvage list (document 01, "The salvage list"): a damaged body in pieces, what is sound kept apart from what is not; and one entry by its bytes alone.
+#![tactic(auto)]
 ghost use Rattle.std.specs.Prelude.{◌≡◌, true, cond, ◌+◌, ◌*◌, ◌/◌, ◌≤◌, ◌<◌, leb, length, drop};
 ghost use Rattle.layout.specs.Promises.{Salvaged, EntryJudged};
 ghost use Rattle.layout.specs.Answers.{refused, sized};

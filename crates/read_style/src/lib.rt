@@ -1,4 +1,6 @@
 // The sections of a style file (document 01, "The style file"): the CASM section, found in one walk over them, and one by the place of its tag.
+#![tactic(auto)]
+
 ghost use Rattle.std.specs.Prelude.{cond, ◌≡◌, ◌+◌, ◌<◌, ◌≤◌, ltb, length};
 ghost use Rattle.layout.specs.Answers.{refused, sized};
 ghost use Rattle.layout.specs.Bytes.{word, four, tagged, CASM};

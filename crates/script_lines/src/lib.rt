@@ -1,4 +1,5 @@
 // The lines of a script on standard input. The text has room for the longest line and a block of 65,536 characters behind it.
+#![tactic(auto)]
 ghost use Rattle.std.specs.Prelude.{◌+◌, ◌≤◌, length};
 ghost use Rattle.script_lines.specs.Reading.{InText, Sound, Stepped};
 

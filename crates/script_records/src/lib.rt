@@ -1,4 +1,5 @@
 // Records in a script's line, each as REC (`script_words::hex`): one and several, taken and printed, and the table that is lent to a call.
+#![tactic(auto)]
 pub mod blanks;
 pub mod rows;
 

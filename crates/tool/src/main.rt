@@ -1,4 +1,5 @@
 // `casm`: what is asked for is looked up by its word, answered, printed, and its status told.
+#![tactic(auto)]
 use tool_ends::{CANNOT, DONE, begin, complain_of, end, is_word, quoted, take_descriptors, tell};
 use tool_help::put_help;
 use tool_out::{OUT, OUTPUT, flush, is_failed, text, writer};

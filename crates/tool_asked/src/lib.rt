@@ -1,4 +1,5 @@
 // What a command is asked: its options and its files, and a named file read or complained of.
+#![tactic(auto)]
 pub mod body;
 
 use tool_bytes::{byte_at, sum};

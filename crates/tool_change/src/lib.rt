@@ -1,4 +1,5 @@
 // A record as it stands, row 0, and as it is to be, row 1: a field's bytes set by a word, and what changed.
+#![tactic(auto)]
 pub mod told;
 
 use tool_bytes::{byte_at, rest, sum};

@@ -1,4 +1,5 @@
 // `casm check FILE..`: a line a file, and how many there are of each kind.
+#![tactic(auto)]
 pub mod line;
 
 use line::{put_json_line, put_line};

@@ -1,4 +1,5 @@
 // A chord, a note and a channel as musicians write them: F#m7, Eb-1, 11.
+#![tactic(auto)]
 pub mod note;
 pub mod wrong;
 

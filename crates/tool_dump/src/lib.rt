@@ -1,4 +1,5 @@
 // Bytes in hex, in rows of 16 that begin where an entry does: its first rows, and the row of a marked byte with one before it and one behind.
+#![tactic(auto)]
 pub mod json;
 
 use tool_bytes::{byte_at, least, part, rest, sum};

@@ -1,4 +1,5 @@
 // `casm edit`: one channel of a part changed, in a copy of the file or in the file itself.
+#![tactic(auto)]
 pub mod target;
 
 use casm::bytes::record_of;

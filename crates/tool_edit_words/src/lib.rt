@@ -1,4 +1,5 @@
 // The arguments of `casm edit`: the file, the part, the channel, the fields with their values, and the options.
+#![tactic(auto)]
 pub mod fields;
 
 use tool_bytes::{byte_at, sum};

@@ -1,4 +1,5 @@
 // How the tool begins and ends: descriptors that are free are taken, and the exit status, which a proved program has none of, goes to descriptor 3 for `run`.
+#![tactic(auto)]
 use tool_out::{ERRORS, OUT, SHOWN, end_line, flush, text, text_as, word, writer};
 
 // What a run comes to: done or sound; damaged, or the answer is no; cannot be done.

@@ -1,4 +1,5 @@
 // What the report says of each entry of a body: a sound group in full, any other with its reason, its place and its bytes.
+#![tactic(auto)]
 use casm::read::group_text;
 use tool_bytes::sum;
 use tool_dump::{Dump, put_dump};

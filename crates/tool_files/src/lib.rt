@@ -1,4 +1,5 @@
 // A named file, read whole into lent memory.
+#![tactic(auto)]
 use tool_bytes::part;
 
 // A file of at most 1,048,576 bytes; one byte more shows that there is more.

@@ -1,4 +1,5 @@
 // The two tables of a sound group in the report: when its channels play, and how their notes are placed.
+#![tactic(auto)]
 pub mod placed;
 pub mod sets;
 

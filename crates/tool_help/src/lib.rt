@@ -1,4 +1,5 @@
 // The help: each command in a line, with an example each.
+#![tactic(auto)]
 use tool_out::{OUT, end_line, word};
 
 const LINES: [[u8; 80]; 26] = [

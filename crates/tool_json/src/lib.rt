@@ -1,4 +1,5 @@
 // `casm report --json`: the same facts for programs, one object a file.
+#![tactic(auto)]
 pub mod channel;
 pub mod entry;
 pub mod put;

@@ -1,4 +1,5 @@
 // `casm note`: where a note of a channel is placed under a chord, and what of its record places it.
+#![tactic(auto)]
 use casm::questions::place_note;
 use casm::read::{find_channel, find_part};
 use casm_by_value::read_with_room;

@@ -1,5 +1,6 @@
 // A buffered writer whose functions take every input, so that code which prints needs no proof.
 // One lent array is the whole writer. Its first four bytes say where it writes, whether a write failed, and how much waits behind them.
+#![tactic(auto)]
 ghost use Rattle.std.specs.Prelude.{◌<◌, ◌≤◌, length};
 
 // Four bytes of state, and a block of 65,536 characters.

@@ -1,4 +1,5 @@
 // A style file as one HTML page, complete in itself: no script, and nothing from outside. It is written as it goes.
+#![tactic(auto)]
 pub mod cards;
 pub mod top;
 

@@ -1,4 +1,5 @@
 // What is the same in every page: its style sheet, and the words at its foot. None of it names anything outside the page.
+#![tactic(auto)]
 use tool_out::{OUT, text};
 
 // Colours, light and dark, and the head of the page.

@@ -1,4 +1,5 @@
 // What the page says of the file: its verdict, its refusal, its sections.
+#![tactic(auto)]
 pub mod refused;
 pub mod sections;
 

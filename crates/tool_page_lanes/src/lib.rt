@@ -1,4 +1,5 @@
 // Ranges of notes, drawn below a keyboard.
+#![tactic(auto)]
 use tool_bytes::{rest, sum};
 use tool_out::{OUT, text, word};
 use tool_page_keys::put_at;

@@ -1,4 +1,5 @@
 // The settings of a set of six bytes, each under its name; the sets of a record.
+#![tactic(auto)]
 use tool_bytes::{rest, sum};
 use tool_out::{OUT, byte, text, word};
 use tool_rows::row::{ROWS, byte_of, is_second, set_place};

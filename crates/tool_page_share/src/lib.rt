@@ -1,4 +1,5 @@
 // Places on a scale, in per cent with three decimals, each as a floating-point number of 64 bits would be printed.
+#![tactic(auto)]
 use tool_bytes::{rest, sum};
 use tool_out::{OUT, byte, number};
 

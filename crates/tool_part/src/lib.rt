@@ -1,4 +1,5 @@
 // The commands that ask something of a part: `plays` and `note`. The arguments are taken, the file is read, and its body must be sound.
+#![tactic(auto)]
 pub mod note;
 pub mod plays;
 

@@ -1,5 +1,6 @@
 // `casm plays` for people: who plays under a chord; and of a part alone, how many play under each.
 
+#![tactic(auto)]
 use casm::read::find_part;
 use tool_bytes::rest;
 use tool_chord::put_name;

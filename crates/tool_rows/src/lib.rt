@@ -1,4 +1,5 @@
 // The channels of a sound group, as rows of bytes: what the records of either edition hold, and the Cntt.
+#![tactic(auto)]
 pub mod row;
 
 use casm::bytes::bytes_of;

@@ -1,5 +1,6 @@
 // A file written so that its name holds the old bytes or the new ones, and never half of them: a new file beside it is written, given its mode, synced, closed and then renamed.
 // On any failure the new file is removed, and the target is as it was.
+#![tactic(auto)]
 pub mod link;
 pub mod outcome;
 

@@ -1,4 +1,5 @@
 // The commands that show one file: `report`, `page` and `list`.
+#![tactic(auto)]
 use tool_asked::{asked_from, complain_option, is_read};
 use tool_ends::{CANNOT, DONE, NO, complain};
 use tool_files::{FILE, contents};

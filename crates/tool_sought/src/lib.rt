@@ -1,4 +1,5 @@
 // A channel of a part of a file, as a command names it: found, or said why not.
+#![tactic(auto)]
 use casm::read::{find_channel, find_group, find_part};
 use layout::answer::Channelled;
 use layout::edition::Edition;

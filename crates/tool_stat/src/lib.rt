@@ -1,4 +1,5 @@
 // What is known of the file that a path names.
+#![tactic(auto)]
 pub mod file;
 
 ghost use Rattle.libc.specs.Io.{Ended};

@@ -1,4 +1,5 @@
 // Values by name or by number, as the words of a report have them: what kinds there are, and the byte that a word stands for.
+#![tactic(auto)]
 pub mod expected;
 pub mod mask;
 

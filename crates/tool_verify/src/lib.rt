@@ -1,4 +1,5 @@
 // `casm verify`: whether two files differ in one channel only.
+#![tactic(auto)]
 pub mod site;
 
 use casm::checking::check_files;

@@ -1,1 +1,3 @@
 // What the proofs by hand share: it stands in proofs/.
+
+#![tactic(auto)]
