@@ -23,7 +23,7 @@ use read_body::survey::read_groups;
 use read_record::edition::ctab_place;
 
 // What looking for a group comes to.
-#[derive(Drop)]
+#[derive(Clone, Copy)]
 pub enum Search {
     // The body is refused: the number and the place.
     Refused(u8, usize),
