@@ -1,5 +1,6 @@
 // The groups of an accepted body: one by its number, one by the name of a part; and a record by its source channel.
 #![tactic(auto)]
+
 pub mod look;
 pub mod row;
 pub mod site;

@@ -1,5 +1,6 @@
 // What may be written (document 01, "Numbers of refusal": writing; document 02, §1 and §4): 16, 8, per record 21, 9 and 10, then 18, and room 14 last.
 #![tactic(auto)]
+
 ghost use Rattle.std.specs.Prelude.{◌≡◌, ◌+◌, ◌*◌, ◌≤◌, ◌<◌, length};
 ghost use Rattle.layout.specs.Editions.{size, held};
 ghost use Rattle.layout.specs.Records.{record_of};
