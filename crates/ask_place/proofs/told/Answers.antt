@@ -2,12 +2,8 @@
 use mathlib.Core.Path.{refl}
 use Rattle.layout.specs.Answers.{number_of, place_of, value_or}
 use Rattle.layout.specs.Place.{placed}
-use Rattle.ask_place.proofs.told.Statement.{statement}
-use Rattle.ask_place.proofs.told.Tie as tie
+use Rattle.ask_place.proofs.told.Goals as goal
 
-returns : tie.Need-returns
+pub returns : goal.returns
 unfolding placed number_of place_of value_or
 returns c = refl
-
-pub told-spec : {M : Type 1} → statement M
-told-spec = tie.close (tie.spec returns)
