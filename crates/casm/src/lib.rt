@@ -1,5 +1,6 @@
 // The public face: every call of documents 01 and 02. A call takes every input; what it promises is one definition of the layout.
 #![tactic(auto)]
+
 pub mod bytes;
 pub mod checking;
 pub mod editing;

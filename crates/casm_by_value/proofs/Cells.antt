@@ -7,7 +7,8 @@ use Rattle.walk.proofs.Words.{triple_of, Contract}
 use denote.Struct.Laws as LL
 use Rattle.walk.proofs.Records.{R, val}
 use Rattle.layout.specs.declared.record.Record.{Record}
-use Rattle.layout.proofs.record.Record as T
+use Rattle.layout.specs.contracts.record.Record as T
+use Rattle.layout.proofs.record.Record.TheLaws as L
 use Rattle.casm_by_value.specs.contracts.lent_of as lent
 use types.Logic.{Logic, sem}
 
@@ -19,25 +20,25 @@ abbrev pub arrv : List Record → Val
 arrv xs = array_val (map val xs)
 
 abbrev pub arr_ty : Ty
-arr_ty = ty_array T.TheLaws.mir 32
+arr_ty = ty_array L.mir 32
 
 module _ {M : Type 1} {𝓤 : Ura M} (𝓛 : Logic 𝓤) where
   -- a table's machine value has the table's MIR type
   open 𝓛 use {H}
 
   pub typed : (ys : List Record) → Is AR ys (arrv ys ∷ []) → Holds (has_ty arr_ty (arrv ys)) × WT (arrv ys)
-  typed ys p = ((Array-Lawful 𝓛 R (LL.lawful T.the_type T.TheLaws.the_laws 𝓛) 32).typed ys _ p).0
+  typed ys p = ((Array-Lawful 𝓛 R (LL.lawful T.the_type L.the_laws 𝓛) 32).typed ys _ p).0
 
   -- what stands behind the first n records
   abbrev pub Rest : List Record → ℕ → ℕ → Fml
   Rest xs n l = cells (mem R) (drop-list n xs) l (at 0 (mem R).size (length (take n xs)))
 
   -- a table in memory is its first n records in memory, and the rest after them
-  pub to_cells : (xs : List Record) (n l : ℕ) → ent 𝓤 (sep 𝓤 (H.at full_share arr_ty l 0 (arrv xs)) (sem 𝓛 (AR.own xs (arrv xs ∷ [])))) (sep 𝓤 (sem 𝓛 (cells (mem R) (take n xs) l 0)) (sem 𝓛 (Rest xs n l)))
+  pub to_cells : (xs : List Record) (n l : ℕ) → ent 𝓤 (sep 𝓤 (H.at full_share arr_ty l 0 (arrv xs)) (sem 𝓛 (AR.own_val xs (arrv xs ∷ [])))) (sep 𝓤 (sem 𝓛 (cells (mem R) (take n xs) l 0)) (sem 𝓛 (Rest xs n l)))
   unfolding part_of
   to_cells xs n l =
-      qed 𝓛 (‵ (fat full_share arr_ty l 0 (arrv xs)) ∷ ‵ (AR.own xs (arrv xs ∷ [])) ∷ []) ∵ use1 𝓛 (‵ (cell_at full_share AR.mir (arrv xs ∷ []) l 0)) (𝓛.laws.at_raw full_share arr_ty l 0 (arrv xs)) $ fjoin ! $
-      fpack ! (List Val) (λ us. fsep (cell_at full_share AR.mir us l 0) (AR.own xs us)) (arrv xs ∷ []) $
+      qed 𝓛 (‵ (fat full_share arr_ty l 0 (arrv xs)) ∷ ‵ (AR.own_val xs (arrv xs ∷ [])) ∷ []) ∵ use1 𝓛 (‵ (cell_at full_share AR.mir (arrv xs ∷ []) l 0)) (𝓛.laws.at_raw full_share arr_ty l 0 (arrv xs)) $ fjoin ! $
+      fpack ! (List Val) (λ us. fsep (cell_at full_share AR.mir us l 0) (AR.own_val xs us)) (arrv xs ∷ []) $
       use1 𝓛 (‵ ((arr_parts (shares R) 32).part full_share xs l 0)) (Array-apart 𝓛 R full_share tt 32 xs l 0) $ fsplit ! $ drop ! $ use1 𝓛 (‵ (cells (mem R) xs l 0)) (whole_in 𝓛 R xs l 0) $
       rewrite ! 0 (λ (ys : List Record). ‵ (cells (mem R) ys l 0)) (sym (take-append-drop n xs)) refl $ by ! (cut_app 𝓛 (mem R) (take n xs) (drop-list n xs) l 0)
 
@@ -56,9 +57,9 @@ module _ {M : Type 1} {𝓤 : Ura M} (𝓛 : Logic 𝓤) where
   abbrev pub Part : List Record → ℕ → Fml
   Part ys l = (arr_parts (shares R) (length ys)).part full_share ys l 0
 
-  pub to_parts : (xs : List Record) (n l : ℕ) → ent 𝓤 (sep 𝓤 (H.at full_share arr_ty l 0 (arrv xs)) (sem 𝓛 (AR.own xs (arrv xs ∷ [])))) (sep 𝓤 (sem 𝓛 (Part (take n xs) l)) (sem 𝓛 (Rest xs n l)))
+  pub to_parts : (xs : List Record) (n l : ℕ) → ent 𝓤 (sep 𝓤 (H.at full_share arr_ty l 0 (arrv xs)) (sem 𝓛 (AR.own_val xs (arrv xs ∷ [])))) (sep 𝓤 (sem 𝓛 (Part (take n xs) l)) (sem 𝓛 (Rest xs n l)))
   to_parts xs n l =
-      qed 𝓛 (‵ (fat full_share arr_ty l 0 (arrv xs)) ∷ ‵ (AR.own xs (arrv xs ∷ [])) ∷ []) ∵ use2 𝓛 (‵ (cells (mem R) (take n xs) l 0) ⊛ ‵ (Rest xs n l)) (to_cells xs n l) $ split ! $
+      qed 𝓛 (‵ (fat full_share arr_ty l 0 (arrv xs)) ∷ ‵ (AR.own_val xs (arrv xs ∷ [])) ∷ []) ∵ use2 𝓛 (‵ (cells (mem R) (take n xs) l 0) ⊛ ‵ (Rest xs n l)) (to_cells xs n l) $ split ! $
       use1 𝓛 (‵ (row R full_share (take n xs) l 0)) (whole_out 𝓛 R (take n xs) l 0) $ feq_i ! ℕ (length (take n xs)) (length (take n xs)) refl $ fjoin ! $ done !
 
   pub from_parts : (xs : List Record) (n l : ℕ) → length xs ≡ 32 → ent 𝓤 (sep 𝓤 (sem 𝓛 (Part (take n xs) l)) (sem 𝓛 (Rest xs n l))) (sem 𝓛 (part_at AR full_share xs l 0))

@@ -1,5 +1,6 @@
 // The lent forms of the face by value, so that a program that uses them stays covered: the table or the record in, and the same with the answer out.
 #![tactic(auto)]
+
 pub mod write;
 
 ghost use Rattle.std.specs.Prelude.{◌≡◌, min, take, drop};
