@@ -1,3 +1,4 @@
+-- A store keeps the length of the text; what falls is how much is left to move.
 use lib.ListN.{length}
 use mathlib.Core.Path.{◌≡◌}
 use Prim.Native.Nat.{◌-◌}

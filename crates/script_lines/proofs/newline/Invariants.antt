@@ -1,3 +1,4 @@
+-- What falls is how much of the text is left.
 use Prim.Native.Nat.{◌-◌, ◌≤◌}
 use Rattle.script_lines.proofs.newline.Given as goal
 

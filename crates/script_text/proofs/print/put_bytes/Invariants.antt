@@ -1,3 +1,4 @@
+-- What falls is how much of the part is left.
 use lib.ListN.{length}
 use Prim.Native.Nat.{◌-◌}
 use Rattle.script_text.proofs.print.put_bytes.Given as goal

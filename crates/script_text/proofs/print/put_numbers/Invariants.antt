@@ -1,3 +1,4 @@
+-- What falls is how many numbers are left.
 use lib.ListN.{length}
 use Prim.Native.Nat.{◌-◌}
 use Rattle.script_text.proofs.print.put_numbers.Given as goal

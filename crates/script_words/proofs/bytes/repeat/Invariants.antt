@@ -1,3 +1,4 @@
+-- A store keeps the length of the room; what falls is how much is left to fill.
 use lib.ListN.{length}
 use mathlib.Core.Path.{◌≡◌}
 use Prim.Native.Nat.{◌-◌, ◌≤◌}

@@ -1,3 +1,4 @@
+-- What falls is how much of the word is left.
 use lib.ListN.{length}
 use Prim.Native.Nat.{◌-◌, ◌+◌, ◌≤◌}
 use Rattle.script_words.proofs.bytes.take_bytes.Given as goal

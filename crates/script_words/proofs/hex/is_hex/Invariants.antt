@@ -1,3 +1,4 @@
+-- What falls is how many digits are left.
 use lib.ListN.{length}
 use Prim.Native.Nat.{◌-◌}
 use Rattle.script_words.proofs.hex.is_hex.Given as goal

@@ -1,3 +1,4 @@
+-- A store keeps the length of the room; what falls is how many pairs are left.
 use lib.ListN.{length}
 use mathlib.Core.Path.{◌≡◌}
 use Prim.Native.Nat.{◌-◌}

@@ -1,3 +1,4 @@
+-- What falls is how much is left.
 use lib.ListN.{length}
 use Prim.Native.Nat.{◌-◌, ◌≤◌}
 use Rattle.script_words.proofs.word.end_of.Given as goal

@@ -1,3 +1,4 @@
+-- What falls is how much of the words is left; no more words were met than characters.
 use lib.ListN.{length}
 use Prim.Native.Nat.{◌-◌, ◌+◌, ◌≤◌}
 use Rattle.script_words.proofs.word.position.Given as goal
