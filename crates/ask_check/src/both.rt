@@ -12,7 +12,7 @@ use read_find::row::{Sought, find_in};
 use read_find::{Search, locate_group, run_body};
 
 // What looking for the record comes to.
-#[derive(Drop)]
+#[derive(Clone, Copy)]
 pub enum Both {
     // The before body is refused: the number, and the place in it.
     Before(u8, usize),

@@ -1,5 +1,6 @@
 // Checking what other editors return (document 02, §13): whether two bodies, or two style files, differ in one record only, and if not, where first.
 #![tactic(auto)]
+
 pub mod both;
 pub mod unlike;
 

@@ -23,20 +23,17 @@ use Rattle.ask_plays.proofs.Standing.{there_playing}
 
 -- ---- the ways out
 
--- what is told of a search by the number of its variant: 0 refused, 1 missing, 2 found. One that is not refused has read the body to its end ..
-pub read_through : (s name : List ℕ) (r : Search) → part_located s name ≡ r → OneOf (1 ∷ 2 ∷ []) (tag_of searched.the_type r) → (n : ℕ) × (body_run s ≡ Ended n)
-read_through s name (Refused a b) e (inl h) = absurd (omega arith)
-read_through s name (Refused a b) e (inr h) = absurd (omega arith)
+-- what is told of a search by what it is not. One that is not refused has read the body to its end ..
+pub read_through : (s name : List ℕ) (r : Search) → part_located s name ≡ r → ((a b : ℕ) → r ≡ Refused a b → ⊥) → (n : ℕ) × (body_run s ≡ Ended n)
+read_through s name (Refused a b) e h = absurd (h a b refl)
 read_through s name Missing e h = let r = part_ended s name e in (r.0, r.1.0)
 read_through s name (Found k x) e h = let p = part_there_is s name k x e in (p.there.count, p.there.run)
 
 -- .. and where it has not found the part either, the part is missing
-pub not_found : (r : Search) → OneOf (1 ∷ 2 ∷ []) (tag_of searched.the_type r) → OneOf (0 ∷ 1 ∷ []) (tag_of searched.the_type r) → r ≡ Missing
-not_found (Refused a b) (inl g) h = absurd (omega arith)
-not_found (Refused a b) (inr g) h = absurd (omega arith)
+pub not_found : (r : Search) → ((a b : ℕ) → r ≡ Refused a b → ⊥) → ((k : ℕ) (x : Standing) → r ≡ Found k x → ⊥) → r ≡ Missing
+not_found (Refused a b) g h = absurd (g a b refl)
 not_found Missing g h = refl
-not_found (Found k x) g (inl h) = absurd (omega arith)
-not_found (Found k x) g (inr h) = absurd (omega arith)
+not_found (Found k x) g h = absurd (h k x refl)
 
 pub nobody_plays : (s name : List ℕ) (root type a b : ℕ) → who_plays s name root type ≡ refused a b → played (refused a b) ≡ played (who_plays s name root type)
 nobody_plays s name root type a b e = rw e

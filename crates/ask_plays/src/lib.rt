@@ -1,5 +1,6 @@
 // Who plays under a chord (document 01, "Who plays"): asked of the group where it stands, the body read once.
 #![tactic(auto)]
+
 ghost use Rattle.std.specs.Prelude.{◌≡◌, ◌+◌, ◌≤◌, ◌<◌, length};
 ghost use Rattle.layout.specs.Answers.{refused, granted};
 ghost use Rattle.layout.specs.Group.{ctab_place};

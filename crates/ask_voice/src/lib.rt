@@ -1,5 +1,6 @@
 // The voice name of a record (document 01, "The CASM body": "the voice name is shown as the caller's own bytes with trailing 20H bytes left off").
 #![tactic(auto)]
+
 ghost use Rattle.std.specs.Prelude.{◌≡◌, ◌+◌, ◌≤◌, length};
 ghost use Rattle.layout.specs.Voice.{trimmed, voice_bytes};
 ghost use Rattle.layout.specs.Promises.{VoiceFound, VoiceShown};

@@ -4,7 +4,7 @@ use c_row::row::Row;
 
 // Accepted or refused.
 #[repr(C)]
-#[derive(Drop)]
+#[derive(Clone, Copy)]
 pub struct Answer {
     pub number: u8,
     pub place: usize,
@@ -12,7 +12,7 @@ pub struct Answer {
 
 // How many groups, records or entries.
 #[repr(C)]
-#[derive(Drop)]
+#[derive(Clone, Copy)]
 pub struct Count {
     pub number: u8,
     pub place: usize,
@@ -21,7 +21,7 @@ pub struct Count {
 
 // How many bytes were written, or how long a section's body or a group is.
 #[repr(C)]
-#[derive(Drop)]
+#[derive(Clone, Copy)]
 pub struct Length {
     pub number: u8,
     pub place: usize,
@@ -30,7 +30,7 @@ pub struct Length {
 
 // The CASM section of a style file.
 #[repr(C)]
-#[derive(Drop)]
+#[derive(Clone, Copy)]
 pub struct Section {
     pub number: u8,
     pub place: usize,
@@ -40,7 +40,7 @@ pub struct Section {
 
 // The number of the group that has a part.
 #[repr(C)]
-#[derive(Drop)]
+#[derive(Clone, Copy)]
 pub struct Holder {
     pub number: u8,
     pub place: usize,
@@ -49,7 +49,7 @@ pub struct Holder {
 
 // Where a group and its parts stand in the body, and the number of its edition, 0 for a group without records.
 #[repr(C)]
-#[derive(Drop)]
+#[derive(Clone, Copy)]
 pub struct Bounds {
     pub number: u8,
     pub place: usize,
@@ -66,7 +66,7 @@ pub struct Bounds {
 
 // The record of a source channel in a group: its number among the group's records, and the place of its byte 0 in the body.
 #[repr(C)]
-#[derive(Drop)]
+#[derive(Clone, Copy)]
 pub struct Position {
     pub number: u8,
     pub place: usize,
@@ -76,7 +76,7 @@ pub struct Position {
 
 // A part of the lent bytes.
 #[repr(C)]
-#[derive(Drop)]
+#[derive(Clone, Copy)]
 pub struct Span {
     pub number: u8,
     pub place: usize,
@@ -86,7 +86,7 @@ pub struct Span {
 
 // The source channels that play, in Ctab order; places past the count are 0.
 #[repr(C)]
-#[derive(Drop)]
+#[derive(Clone, Copy)]
 pub struct Players {
     pub number: u8,
     pub place: usize,
@@ -96,7 +96,7 @@ pub struct Players {
 
 // The note.
 #[repr(C)]
-#[derive(Drop)]
+#[derive(Clone, Copy)]
 pub struct Note {
     pub number: u8,
     pub place: usize,
@@ -105,7 +105,7 @@ pub struct Note {
 
 // A record after one field byte of it was set; on refusal the record as it was.
 #[repr(C)]
-#[derive(Drop)]
+#[derive(Clone, Copy)]
 pub struct Edited {
     pub number: u8,
     pub place: usize,
@@ -115,7 +115,7 @@ pub struct Edited {
 // Whether what came back is what was sent but for one record: 1 for yes; where it is 0 and the call accepts, the first place at which the two are unlike.
 // On refusal the number of what is refused: 1 the before file, 2 the after file, 3 the before body, 4 the after body.
 #[repr(C)]
-#[derive(Drop)]
+#[derive(Clone, Copy)]
 pub struct Check {
     pub number: u8,
     pub place: usize,
@@ -126,7 +126,7 @@ pub struct Check {
 
 // What stands at a place: the number of the group, the number of the chunk in it, and the place of the chunk's tag.
 #[repr(C)]
-#[derive(Drop)]
+#[derive(Clone, Copy)]
 pub struct Site {
     pub number: u8,
     pub place: usize,

@@ -27,7 +27,7 @@ pub const POSITION_AT: usize = 50;
 // A channel record: its edition, its bytes (the first edition uses 26 of them), whether it has a Cntt (0 for none), the Cntt's value and its position. 51 bytes, as in a flat table.
 // The bytes that its edition does not use are not looked at, nor is a Cntt of the second edition.
 #[repr(C)]
-#[derive(Drop)]
+#[derive(Clone, Copy)]
 pub struct Row {
     pub edition: u8,
     pub bytes: [u8; SECOND_RECORD],

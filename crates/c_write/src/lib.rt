@@ -1,5 +1,6 @@
 // A group written from a flat table of records (document 01, "Writing and editing"). The rows are taken one at a time as they stand: no record of one is made, and no table of them.
 #![tactic(auto)]
+
 ghost use Rattle.std.specs.Prelude.{◌≡◌, ◌+◌, ◌≤◌, length, take};
 ghost use mathlib.Core.List.{flat_map};
 ghost use Rattle.layout.specs.Edit.{replaced};

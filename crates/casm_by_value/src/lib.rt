@@ -9,7 +9,7 @@ use layout::answer::{Answered, Changed, Counted};
 use layout::record::Record;
 
 // A table after it was lent, and the answer of the call that it was lent to.
-#[derive(Drop)]
+#[derive(Clone, Copy)]
 pub struct Filled {
     pub table: [Record; 32],
     pub answer: Counted,

@@ -66,5 +66,5 @@ unfolding entries_from flatten entry_bytes
 entries_all P pre [] h = tt
 entries_all P pre (p ∷ ps) h = (
   rw (drop-append_seam pre (p.bytes ++ joined ps), take-append_seam p.bytes (joined ps)) h.0,
-  rw (← length-append, ← append_assoc) (entries_all P (pre ++ p.bytes) ps h.1),
+  rw (length-append, append_assoc) at (entries_all P (pre ++ p.bytes) ps h.1),
 )

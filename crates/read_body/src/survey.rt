@@ -13,7 +13,7 @@ use layout::turn::{Judged, Run, Turn};
 use read_record::edition::is_alike;
 
 // A turn but for its names, and where it goes on the group's edition, and how many Ctabs and Cntts it has.
-#[derive(Drop)]
+#[derive(Clone, Copy)]
 pub struct Turned {
     pub turn: Turn,
     pub edition: Edition,
@@ -22,7 +22,7 @@ pub struct Turned {
 }
 
 // The run but for the names, how many groups it has before it stops or ends, and the edition of those that have records.
-#[derive(Drop)]
+#[derive(Clone, Copy)]
 pub struct Entered {
     pub run: Run,
     pub groups: usize,
@@ -30,7 +30,7 @@ pub struct Entered {
 }
 
 // The run, and the edition of the groups that have records.
-#[derive(Drop)]
+#[derive(Clone, Copy)]
 pub struct Surveyed {
     pub run: Run,
     pub edition: Edition,

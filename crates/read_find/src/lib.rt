@@ -1,5 +1,6 @@
 // The groups of an accepted body: one by its number, one by the name of a part; and a record by its source channel.
 #![tactic(auto)]
+
 pub mod look;
 pub mod row;
 pub mod site;
@@ -23,7 +24,7 @@ use read_body::survey::read_groups;
 use read_record::edition::ctab_place;
 
 // What looking for a group comes to.
-#[derive(Drop)]
+#[derive(Clone, Copy)]
 pub enum Search {
     // The body is refused: the number and the place.
     Refused(u8, usize),

@@ -13,7 +13,7 @@ use layout::refusal::{BAD_NUMBER, NOT_THERE};
 use read_record::edition::ctab_place;
 
 // What looking for the record of a source channel comes to.
-#[derive(Drop)]
+#[derive(Clone, Copy)]
 pub enum Sought {
     // The number of the refusal, and its place.
     Refused(u8, usize),

@@ -13,7 +13,7 @@ use read_ranges::first_out;
 use read_record::edition::{ctab_place, size_of, tag_of};
 
 // The run, and for each source channel whether one of its Ctabs has it.
-#[derive(Drop)]
+#[derive(Clone, Copy)]
 pub struct Ctabs {
     pub run: Run,
     pub seen: [bool; CHANNELS],

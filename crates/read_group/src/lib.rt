@@ -1,5 +1,6 @@
 // One group in its parent (document 01, "The CASM body"): its Ctabs, its Cntts, its contents.
 #![tactic(auto)]
+
 pub mod cntts;
 pub mod ctabs;
 

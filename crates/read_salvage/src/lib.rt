@@ -1,5 +1,6 @@
 // The salvage list (document 01, "The salvage list"): a damaged body in pieces, what is sound kept apart from what is not; and one entry by its bytes alone.
 #![tactic(auto)]
+
 ghost use Rattle.std.specs.Prelude.{◌≡◌, true, cond, ◌+◌, ◌*◌, ◌/◌, ◌≤◌, ◌<◌, leb, length, drop};
 ghost use Rattle.layout.specs.Promises.{Salvaged, EntryJudged};
 ghost use Rattle.layout.specs.Answers.{refused, sized};
@@ -13,7 +14,7 @@ use layout::tag::CSEG;
 use layout::turn::Judged;
 
 // An entry's length and kind; its place is known where it is asked for.
-#[derive(Drop)]
+#[derive(Clone, Copy)]
 struct Found {
     size: usize,
     kind: usize,

@@ -3,7 +3,7 @@
 
 ghost use Rattle.std.specs.Prelude.{cond, ◌≡◌, ◌+◌, ◌<◌, ◌≤◌, ltb, length};
 ghost use Rattle.layout.specs.Answers.{refused, sized};
-ghost use Rattle.layout.specs.Bytes.{word, four, tagged, CASM};
+ghost use Rattle.layout.specs.Bytes.{word, four, tagged, CASM as CASMTAG};
 ghost use Rattle.layout.specs.Style.{no_style, section_tagged, section_turn_at, located};
 ghost use Rattle.layout.specs.Promises.{CasmFound, SectionRead};
 ghost use Rattle.read_style.specs.Walk.{Fit, Walked, SectionsRead};
@@ -15,7 +15,7 @@ use layout::tag::{CASM, MTHD, MTRK};
 use layout::turn::{Run, Turn};
 
 // The run of the sections, and the place of the CASM tag among them: 0 where there is none, for no section stands there.
-#[derive(Drop)]
+#[derive(Clone, Copy)]
 struct Sections {
     run: Run,
     casm: usize,
@@ -80,7 +80,7 @@ fn section_turn(file: &[u8], start: usize, n: usize, at: usize) -> Turn
 // The place of the CASM tag after the section at `at`, `casm` being the place before it.
 fn casm_after(file: &[u8], at: usize, casm: usize) -> usize
     requires { at + 4 ≤ length file.now }
-    ensures { result ≡ cond (tagged file.now at CASM) at casm }
+    ensures { result ≡ cond (tagged file.now at CASMTAG) at casm }
 {
     if read_bytes::is_tagged(file, at, CASM) {
         return at;

@@ -16,7 +16,7 @@ use read_record::edition::{ctab_place, held_of};
 use read_record::made::record_of;
 
 // What reading a group's records comes to: the refusal, or how many there are, their edition, and where the group's Ctabs and Cntts begin in the body.
-#[derive(Drop)]
+#[derive(Clone, Copy)]
 pub struct Reading {
     pub number: u8,
     pub place: usize,

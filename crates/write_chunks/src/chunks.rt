@@ -1,6 +1,6 @@
 // The chunk writers: each writes at the start of what it is lent and lends on the tail behind its header.
 ghost use Rattle.std.specs.Prelude.{◌≡◌, ◌++◌, ◌+◌, ◌≤◌, length, drop};
-ghost use Rattle.layout.specs.Bytes.{CSEG, Sdec, four, chunk};
+ghost use Rattle.layout.specs.Bytes.{CSEG as CSEGTAG, Sdec, four, chunk};
 ghost use Rattle.layout.specs.declared.record.SecondTable.TheVariants.{Value};
 ghost use Rattle.layout.specs.Editions.{tag_of, size, held, closing};
 ghost use Rattle.layout.specs.Write.{cntt_bytes};
@@ -23,7 +23,7 @@ fn put_sdec(out: &mut [u8], text: &[u8])
 // A group's header, for a payload of `size` bytes, and the Sdec in what is left.
 pub fn put_front(out: &mut [u8], text: &[u8], size: usize)
     requires { 16 + length text.now ≤ length out.old }
-    ensures { out.new ≡ CSEG ++ (four size ++ (chunk Sdec text.now ++ drop (16 + length text.now) out.old)) }
+    ensures { out.new ≡ CSEGTAG ++ (four size ++ (chunk Sdec text.now ++ drop (16 + length text.now) out.old)) }
 {
     put_head(out, CSEG, size);
     put_sdec(&mut out[8..], text);

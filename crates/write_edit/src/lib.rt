@@ -1,5 +1,6 @@
 // Editing (document 01, "Writing and editing"; document 02, §4 and §6): the record of a group and source channel replaced inside a lent body, or inside a lent style file.
 #![tactic(auto)]
+
 pub mod file;
 
 ghost use Rattle.std.specs.Prelude.{◌≡◌, ◌+◌, ◌≤◌, length};

@@ -1,5 +1,6 @@
 // The editing screen (document 01, "Writing and editing"; document 02, §4 and §6): one field byte of a record set, all other fields kept.
 #![tactic(auto)]
+
 ghost use Rattle.std.specs.Prelude.{◌≡◌, not, ◌&&◌, eqb};
 ghost use Rattle.layout.specs.Lock.{lock_byte, locks};
 ghost use Rattle.layout.specs.Promises.{FieldSet};

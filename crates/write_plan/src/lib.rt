@@ -1,5 +1,6 @@
 // What may be written (document 01, "Numbers of refusal": writing; document 02, §1 and §4): 16, 8, per record 21, 9 and 10, then 18, and room 14 last.
 #![tactic(auto)]
+
 ghost use Rattle.std.specs.Prelude.{◌≡◌, ◌+◌, ◌*◌, ◌≤◌, ◌<◌, length};
 ghost use Rattle.layout.specs.Editions.{size, held};
 ghost use Rattle.layout.specs.Records.{record_of};
@@ -21,7 +22,7 @@ use read_record::held::{edition_of, first_bad_of, position_of, second_of};
 // What the records looked at so far come to: a refusal, or how many are to be looked at in all, the edition of the first, the group's length with those seen,
 // which source channels they have (bit k of `seen` is set where one has channel k), how many of them have a Cntt,
 // and how many Cntts there must be for their positions to be right.
-#[derive(Drop)]
+#[derive(Clone, Copy)]
 pub struct Checked {
     pub number: u8,
     pub place: usize,
@@ -34,14 +35,14 @@ pub struct Checked {
 }
 
 // That, and their Cntts laid down: the channel of the one at position p, from 1, at 2 * p - 2, and its value behind it.
-#[derive(Drop)]
+#[derive(Clone, Copy)]
 pub struct Taken {
     pub checked: Checked,
     pub cntts: [u8; 32],
 }
 
 // What writing comes to: the refusal, or how many records of one edition go into a group of so many bytes, and its Cntts, laid down.
-#[derive(Drop)]
+#[derive(Clone, Copy)]
 pub struct Plan {
     pub number: u8,
     pub place: usize,
