@@ -1,5 +1,6 @@
 // Placing a note by chord root (document 01, "Placing a note"; document 02, §3): signed arithmetic, octave folding by remainders below zero.
 #![tactic(auto)]
+
 pub mod choose;
 
 ghost use Rattle.std.specs.Prelude.{◌≡◌, ◌||◌, ◌<◌, ◌≤◌, leb, length, pos};

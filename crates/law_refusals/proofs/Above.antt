@@ -7,7 +7,8 @@ use Rattle.layout.specs.declared.lock.Override.{Override}
 use Rattle.layout.specs.declared.record.Record.{Record}
 use Rattle.law_refusals.specs.Heads.{HeadRefused, header_cut, other_tag, length_past}
 use Rattle.law_refusals.specs.File.{FileRefused, file_over, not_style_given, section_cut, section_past, tag_again_given, no_casm_given, casm_over}
-use Rattle.law_refusals.specs.Contents.{ContentsRefused, sdec_head, sdec_text, of_ctab, ctb2_cntt, ctab_head, ctab_size, ctab_byte, ctab_again, cntt_head, cntt_size, cntt_channel_given, cntt_value_given, cntt_again, cntt_stray}
+use Rattle.layout.specs.declared.edition.Edition.{Edition}
+use Rattle.law_refusals.specs.Contents.{ContentsRefused, CtabRefused, sdec_head, sdec_text, of_ctab, ctb2_cntt, ctab_head, ctab_size, ctab_byte, ctab_again, cntt_head, cntt_size, cntt_channel_given, cntt_value_given, cntt_again, cntt_stray}
 use Rattle.law_refusals.specs.Body.{GroupRefused, group_head, group_empty, group_contents, BodyRefused, body_over, head_refused, too_many, group_refused, name_again_given}
 use Rattle.law_refusals.specs.Body as body
 use Rattle.law_refusals.specs.After.{GroupAsked, of_body, no_group_given, RecordsAsked, of_group_given, no_room_given, PartAsked, part_of_body, no_part}
@@ -38,13 +39,16 @@ head_known s at tag _ (header_cut a) = (omega arith, omega arith)
 head_known s at tag _ (other_tag a b) = (omega arith, omega arith)
 head_known s at tag _ (length_past a b c) = (omega arith, omega arith)
 
+ctabs_known : (e : Edition) (c : List ℕ) → Known (CtabRefused e c)
+ctabs_known e c _ _ (ctab_head n number a b d h) = head_known c _ _ number h
+ctabs_known e c _ _ (ctab_size n a b d) = (omega arith, omega arith)
+ctabs_known e c _ _ (ctab_byte n k a b d f) = (omega arith, omega arith)
+ctabs_known e c _ _ (ctab_again i n a b d f) = (omega arith, omega arith)
+
 contents_known : (c : List ℕ) → Known (ContentsRefused c)
 contents_known c _ _ (sdec_head number h) = head_known c _ _ number h
 contents_known c _ _ (sdec_text a b) = (omega arith, omega arith)
-contents_known c _ _ (of_ctab e _ _ o (ctab_head n number a b d h)) = head_known c _ _ number h
-contents_known c _ _ (of_ctab e _ _ o (ctab_size n a b d)) = (omega arith, omega arith)
-contents_known c _ _ (of_ctab e _ _ o (ctab_byte n k a b d f)) = (omega arith, omega arith)
-contents_known c _ _ (of_ctab e _ _ o (ctab_again i n a b d f)) = (omega arith, omega arith)
+contents_known c _ _ (of_ctab e number place o h) = ctabs_known e c number place h
 contents_known c _ _ (ctb2_cntt n o a b d) = (omega arith, omega arith)
 contents_known c _ _ (cntt_head n j number a b h) = head_known c _ _ number h
 contents_known c _ _ (cntt_size n j a b d) = (omega arith, omega arith)

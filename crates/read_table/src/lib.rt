@@ -1,5 +1,6 @@
 // A group's records, one by one (document 01, "The CASM body"): what reading them comes to, and record number i by value. Filling a lent table is `filled`'s.
 #![tactic(auto)]
+
 pub mod filled;
 
 ghost use Rattle.std.specs.Prelude.{◌≡◌, ◌+◌, ◌*◌, ◌≤◌, length};

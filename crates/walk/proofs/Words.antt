@@ -17,7 +17,7 @@ pub use borrow.Author.Rules.{scaled_Fits}
 pub use borrow.Author.Tests.{ltb-false, ltb-true}
 -- ---- machine values and assertions
 pub use seplogic.Ra.Ura.{Ura}
-pub use seplogic.Ra.TreeShare.{full_share}
+pub use base.Fraction.{full_share}
 pub use mir.Syntax.{Lifetime, Ty, erased, imm, mut, named, ty_array, ty_bool, ty_int, ty_ptr, ty_ref, w64, w8}
 pub use mir.Val.{Val, WT, has_ty, vbool, vint, vptr}
 pub use base.Logic.{SProp, emp, ent, ex, ex_e, fst∗, id⊢, sep, snd∗, via}
@@ -26,7 +26,8 @@ pub use prog.Memory.{Memory}
 pub use prog.Routine.{Routine}
 pub use prog.Wp.{Calls, Env, Heap, Loops, Out, Tables, Wp, WpFn, after_block, after_seq, at_return}
 unfoldable pub use prog.Wp.{after_turn}
-pub use ghost.Atoms.{Atoms, sem}
+pub use ghost.Atoms.{Atoms}
+pub use types.Logic.{sem}
 pub use contract.Monad.{Fun, fact}
 pub use contract.Running.{given_of, tables}
 unfoldable pub use contract.Running.{tables_of}

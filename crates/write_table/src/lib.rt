@@ -1,5 +1,6 @@
 // A group written from a lent table (document 01, "Writing and editing": "writing puts one group at the start of a lent buffer").
 #![tactic(auto)]
+
 pub mod lent;
 
 ghost use Rattle.layout.specs.Promises.{GroupWritten};
