@@ -4,16 +4,10 @@ use casm_by_value::read_with_room;
 use layout::answer::Counted;
 use script_records::blanks::{blank_table, is_kept};
 use script_records::rows::put_records;
-use script_text::print::{OUT, put, put_bytes, put_kept, put_number, put_ok, put_refused};
+use script_text::print::{Printed, put, put_bytes, put_kept, put_number, put_ok, put_refused};
 
 // The refusal, or how many records there are and the group's text.
-fn put_count(
-    out: &mut [u8; OUT],
-    used: usize,
-    body: &[u8],
-    group: usize,
-    answer: Counted,
-) -> usize {
+fn put_count(out: &mut Printed, used: usize, body: &[u8], group: usize, answer: Counted) -> usize {
     if answer.number != 0 {
         return put_refused(out, used, answer.number, answer.place);
     }
@@ -24,7 +18,7 @@ fn put_count(
 }
 
 // `group BYTES G ROOM`: there are no records where the call is refused.
-pub fn group(body: &[u8], number: usize, room: usize, out: &mut [u8; OUT], used: usize) -> usize {
+pub fn group(body: &[u8], number: usize, room: usize, out: &mut Printed, used: usize) -> usize {
     let filled = read_with_room(body, number, blank_table(), room);
     let answer = filled.answer;
     let records = filled.table;

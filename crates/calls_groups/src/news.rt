@@ -5,13 +5,15 @@ use casm_by_value::write::write_with;
 use layout::answer::Measured;
 use layout::record::Record;
 use script_records::rows::take_records;
-use script_text::print::{OUT, put, put_bad, put_bytes, put_end, put_number, put_ok, put_refused};
+use script_text::print::{
+    Printed, put, put_bad, put_bytes, put_end, put_number, put_ok, put_refused,
+};
 
 // The most bytes that are lent to be written into.
 const BUFFER: usize = 2048;
 
 // The refusal, or the group's length.
-fn put_length(out: &mut [u8; OUT], used: usize, answer: Measured) -> usize {
+fn put_length(out: &mut Printed, used: usize, answer: Measured) -> usize {
     if answer.number != 0 {
         return put_refused(out, used, answer.number, answer.place);
     }
@@ -20,7 +22,7 @@ fn put_length(out: &mut [u8; OUT], used: usize, answer: Measured) -> usize {
 }
 
 // The answer and the whole of what was lent.
-fn put_written(out: &mut [u8; OUT], used: usize, answer: Measured, buffer: &[u8]) -> usize {
+fn put_written(out: &mut Printed, used: usize, answer: Measured, buffer: &[u8]) -> usize {
     let measured = put_length(out, used, answer);
     let parted = put(out, measured, b' ');
     let told = put_bytes(out, parted, buffer);
@@ -48,7 +50,7 @@ pub fn write(
     room: usize,
     line: &[u8],
     at: usize,
-    out: &mut [u8; OUT],
+    out: &mut Printed,
     used: usize,
 ) -> usize {
     if room > BUFFER {

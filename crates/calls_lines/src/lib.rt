@@ -1,11 +1,12 @@
 // A line of a script is answered by the verb that it begins with. `room` and `name` hold its BYTES and its NAME.
 #![tactic(auto)]
+
 ghost use Rattle.std.specs.Prelude.{◌≤◌};
 ghost use Rattle.script_lines.specs.Reading.{InText};
 
 use script_asked::{EDIT, EDITFILE, GROUP, WRITE, ask};
 use script_lines::{LINE, OVERLONG, TEXT};
-use script_text::print::{OUT, put_bad};
+use script_text::print::{Printed, put_bad};
 use script_words::bytes::{ROOM, first};
 use script_words::hex::is_rec;
 use script_words::word::{is_past, next, number, word_at};
@@ -33,7 +34,7 @@ fn answer(
     line: &[u8],
     room: &mut [u8; ROOM],
     name: &mut [u8; ROOM],
-    out: &mut [u8; OUT],
+    out: &mut Printed,
     used: usize,
 ) -> usize {
     let asked = ask(line, room, name);
@@ -63,7 +64,7 @@ pub fn answer_step(
     end: usize,
     room: &mut [u8; ROOM],
     name: &mut [u8; ROOM],
-    out: &mut [u8; OUT],
+    out: &mut Printed,
     used: usize,
 ) -> usize
     requires { (start ≤ end) × (InText end) }

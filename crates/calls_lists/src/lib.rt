@@ -1,11 +1,12 @@
 // The verb `salvage`: the call on a lent list, three numbers an entry (place, length, kind), and whether the rest of the list was kept.
 #![tactic(auto)]
+
 ghost use Rattle.std.specs.Prelude.{◌≤◌, length};
 
 use casm::list::list_salvage;
 use layout::answer::Counted;
 use script_text::print::{
-    OUT, put, put_bad, put_digits, put_kept, put_number, put_ok, put_refused,
+    Printed, put, put_bad, put_digits, put_kept, put_number, put_ok, put_refused,
 };
 
 // Three numbers for each of 8,192 entries, enough for any body.
@@ -42,7 +43,7 @@ fn mark(k: usize) -> u8 {
 }
 
 // The first `count` entries.
-fn put_entries(out: &mut [u8; OUT], used: usize, list: &[usize; LIST], count: usize) -> usize {
+fn put_entries(out: &mut Printed, used: usize, list: &[usize; LIST], count: usize) -> usize {
     let mut after = used;
     let mut k: usize = 0;
     while k < LIST && k / 3 < count {
@@ -61,7 +62,7 @@ fn list_into(body: &[u8], list: &mut [usize], n: usize) -> Counted
 }
 
 // The refusal, or how many entries there are.
-fn put_count(out: &mut [u8; OUT], used: usize, listed: Counted) -> usize {
+fn put_count(out: &mut Printed, used: usize, listed: Counted) -> usize {
     if listed.number != 0 {
         return put_refused(out, used, listed.number, listed.place);
     }
@@ -70,7 +71,7 @@ fn put_count(out: &mut [u8; OUT], used: usize, listed: Counted) -> usize {
 }
 
 // `salvage BYTES ROOM`: there are no entries where the call is refused.
-pub fn salvage(body: &[u8], entries: usize, out: &mut [u8; OUT], used: usize) -> usize {
+pub fn salvage(body: &[u8], entries: usize, out: &mut Printed, used: usize) -> usize {
     if entries > 8192 {
         return put_bad(out, used);
     }

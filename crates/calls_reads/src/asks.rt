@@ -1,7 +1,9 @@
 // Questions to a body: who plays, and what a voice is called.
 use casm::questions::{find_voice, voice_name, who_plays};
 use layout::record::SourceChannel;
-use script_text::print::{OUT, at_most, put, put_bytes, put_end, put_ok, put_refusal, put_told};
+use script_text::print::{
+    Printed, at_most, put, put_bytes, put_end, put_ok, put_refusal, put_told,
+};
 
 // The numbers of source channels.
 fn numbers_of(channels: [SourceChannel; 16]) -> [usize; 16] {
@@ -21,7 +23,7 @@ pub fn plays(
     name: &[u8],
     root: u8,
     kind: u8,
-    out: &mut [u8; OUT],
+    out: &mut Printed,
     used: usize,
 ) -> usize {
     let played = who_plays(body, name, root, kind);
@@ -32,7 +34,7 @@ pub fn plays(
 }
 
 // `voice BYTES G CHANNEL`: where the name stands says whether it is refused.
-pub fn voice(body: &[u8], group: usize, channel: u8, out: &mut [u8; OUT], used: usize) -> usize {
+pub fn voice(body: &[u8], group: usize, channel: u8, out: &mut Printed, used: usize) -> usize {
     let found = find_voice(body, group, SourceChannel(channel));
     if found.number != 0 {
         return put_refusal(out, used, found.number, found.place);

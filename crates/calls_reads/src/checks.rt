@@ -2,9 +2,9 @@
 use casm::checking::{check_bodies, check_files};
 use layout::answer::{Checked, Which};
 use layout::record::SourceChannel;
-use script_text::print::{OUT, put_end, put_number, put_refused, put_text};
+use script_text::print::{Printed, put_end, put_number, put_refused, put_text};
 
-fn put_which(out: &mut [u8; OUT], used: usize, which: Which) -> usize {
+fn put_which(out: &mut Printed, used: usize, which: Which) -> usize {
     match which {
         Which::Neither => put_text(out, used, b" neither"),
         Which::BeforeFile => put_text(out, used, b" beforefile"),
@@ -14,7 +14,7 @@ fn put_which(out: &mut [u8; OUT], used: usize, which: Which) -> usize {
     }
 }
 
-fn put_checked(out: &mut [u8; OUT], used: usize, checked: Checked) -> usize {
+fn put_checked(out: &mut Printed, used: usize, checked: Checked) -> usize {
     if checked.number != 0 {
         let refused = put_refused(out, used, checked.number, checked.place);
         let which = checked.which;
@@ -35,7 +35,7 @@ pub fn bodies(
     after: &[u8],
     group: usize,
     source: u8,
-    out: &mut [u8; OUT],
+    out: &mut Printed,
     used: usize,
 ) -> usize {
     let checked = check_bodies(before, after, group, SourceChannel(source));
@@ -48,7 +48,7 @@ pub fn files(
     after: &[u8],
     group: usize,
     source: u8,
-    out: &mut [u8; OUT],
+    out: &mut Printed,
     used: usize,
 ) -> usize {
     let checked = check_files(before, after, group, SourceChannel(source));

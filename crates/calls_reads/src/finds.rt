@@ -5,10 +5,10 @@ use casm::read::{
 };
 use layout::edition::Edition;
 use layout::record::SourceChannel;
-use script_text::print::{OUT, put_told};
+use script_text::print::{Printed, put_told};
 
 // `find BYTES`
-pub fn find(file: &[u8], out: &mut [u8; OUT], used: usize) -> usize {
+pub fn find(file: &[u8], out: &mut Printed, used: usize) -> usize {
     let found = find_casm(file);
     put_told(
         out,
@@ -20,13 +20,13 @@ pub fn find(file: &[u8], out: &mut [u8; OUT], used: usize) -> usize {
 }
 
 // `body BYTES`
-pub fn body(body: &[u8], out: &mut [u8; OUT], used: usize) -> usize {
+pub fn body(body: &[u8], out: &mut Printed, used: usize) -> usize {
     let read = read_body(body);
     put_told(out, used, read.number, read.place, &[read.count])
 }
 
 // `part BYTES NAME`
-pub fn part(body: &[u8], name: &[u8], out: &mut [u8; OUT], used: usize) -> usize {
+pub fn part(body: &[u8], name: &[u8], out: &mut Printed, used: usize) -> usize {
     let found = find_part(body, name);
     put_told(out, used, found.number, found.place, &[found.group])
 }
@@ -43,7 +43,7 @@ fn edition_told(edition: Edition, records: usize) -> usize {
 }
 
 // `where BYTES G`: `where` is a word of the language.
-pub fn place(body: &[u8], group: usize, out: &mut [u8; OUT], used: usize) -> usize {
+pub fn place(body: &[u8], group: usize, out: &mut Printed, used: usize) -> usize {
     let found = find_group(body, group);
     let stands = found.group;
     let edition = stands.edition;
@@ -62,25 +62,25 @@ pub fn place(body: &[u8], group: usize, out: &mut [u8; OUT], used: usize) -> usi
 }
 
 // `channel BYTES G CHANNEL`
-pub fn channel(body: &[u8], group: usize, source: u8, out: &mut [u8; OUT], used: usize) -> usize {
+pub fn channel(body: &[u8], group: usize, source: u8, out: &mut Printed, used: usize) -> usize {
     let found = find_channel(body, group, SourceChannel(source));
     put_told(out, used, found.number, found.place, &[found.row, found.at])
 }
 
 // `section BYTES AT`
-pub fn section(file: &[u8], tag: usize, out: &mut [u8; OUT], used: usize) -> usize {
+pub fn section(file: &[u8], tag: usize, out: &mut Printed, used: usize) -> usize {
     let read = read_section(file, tag);
     put_told(out, used, read.number, read.place, &[read.length])
 }
 
 // `entry BYTES`
-pub fn entry(bytes: &[u8], out: &mut [u8; OUT], used: usize) -> usize {
+pub fn entry(bytes: &[u8], out: &mut Printed, used: usize) -> usize {
     let judged = judge_entry(bytes);
     put_told(out, used, judged.number, judged.place, &[judged.length])
 }
 
 // `site BYTES PLACE`
-pub fn site(body: &[u8], place: usize, out: &mut [u8; OUT], used: usize) -> usize {
+pub fn site(body: &[u8], place: usize, out: &mut Printed, used: usize) -> usize {
     let found = find_place(body, place);
     put_told(
         out,

@@ -6,7 +6,7 @@ use script_asked::{
     BODY, CHANNEL, CHECKED, CHECKEDFILE, ENTRY, FIND, PART, PLAYS, SALVAGE, SECTION, SITE, VOICE,
     WHERE,
 };
-use script_text::print::{OUT, put_bad};
+use script_text::print::{Printed, put_bad};
 use script_words::word::byte;
 
 // The body, the NAME and the numbers of a line are handed to its verb.
@@ -16,7 +16,7 @@ pub fn answer(
     name: &[u8],
     one: usize,
     two: usize,
-    out: &mut [u8; OUT],
+    out: &mut Printed,
     used: usize,
 ) -> usize {
     match verb {

@@ -4,7 +4,7 @@ use layout::answer::Answered;
 use layout::lock::Override;
 use layout::record::{Record, SourceChannel};
 use script_records::record_from;
-use script_text::print::{OUT, at_most, put_answer, put_bytes, put_end};
+use script_text::print::{Printed, at_most, put_answer, put_bytes, put_end};
 use script_words::bytes::{ROOM, first};
 use script_words::word::number;
 
@@ -50,7 +50,7 @@ pub fn edit(
     channel: u8,
     rec: &[u8],
     over: &[u8],
-    out: &mut [u8; OUT],
+    out: &mut Printed,
     used: usize,
 ) -> usize {
     let answer = edit_first(
@@ -74,7 +74,7 @@ pub fn edit_file(
     channel: u8,
     over: usize,
     rec: &[u8],
-    out: &mut [u8; OUT],
+    out: &mut Printed,
     used: usize,
 ) -> usize {
     let answer = edit_file_first(

@@ -4,7 +4,7 @@ use crate::edits::{edit, edit_file};
 use calls_groups::groups::group;
 use calls_groups::news::write;
 use script_asked::{Asked, EDIT, EDITFILE, GROUP, PLACE, SCREEN, WRITE};
-use script_text::print::{OUT, put_bad};
+use script_text::print::{Printed, put_bad};
 use script_words::bytes::{ROOM, first};
 use script_words::word::{byte, next, word_at};
 
@@ -14,7 +14,7 @@ pub fn answer(
     asked: Asked,
     room: &mut [u8; ROOM],
     name: &[u8],
-    out: &mut [u8; OUT],
+    out: &mut Printed,
     used: usize,
 ) -> usize {
     let verb = asked.verb;

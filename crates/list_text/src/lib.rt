@@ -1,5 +1,6 @@
 // What the program `list` prints of a file (document 01, "Marked examples": the program `list`), in a lent buffer.
 #![tactic(auto)]
+
 ghost use mathlib.Core.List.{flat_map};
 ghost use Rattle.std.specs.Prelude.{◌≡◌, ◌+◌, ◌*◌, ◌≤◌, length};
 ghost use Rattle.layout.specs.Answers.{granted};

@@ -1,5 +1,6 @@
 // The verbs, and the words that stand behind one.
 #![tactic(auto)]
+
 use script_words::bytes::{ROOM, take_bytes};
 use script_words::hex::is_rec;
 use script_words::word::{NONE, next, number, position, word_at};

@@ -1,7 +1,10 @@
-// The lines of a script on standard input. The text has room for the longest line and a block of 65,536 characters behind it.
+// The lines of a script, which a reader gives. The text has room for the longest line and a block of 65,536 characters behind it.
 #![tactic(auto)]
+
 ghost use Rattle.std.specs.Prelude.{◌+◌, ◌≤◌, length};
 ghost use Rattle.script_lines.specs.Reading.{InText, Sound, Stepped};
+
+use std::io::Read;
 
 // The most characters that a line may have.
 pub const MOST: usize = 2200000;
@@ -13,7 +16,7 @@ pub fn text() -> [u8; TEXT] {
 }
 
 // text[from..to] is read and not answered, and has no newline before `seen`.
-#[derive(Drop)]
+#[derive(Clone, Copy)]
 pub struct Reader {
     pub from: usize,
     pub seen: usize,
@@ -112,27 +115,26 @@ fn keep(text: &mut [u8], from: usize, count: usize)
 }
 
 // Reads once, and answers how many characters came: 0 at the input's end, and where a read fails.
-fn read_some(text: &mut [u8]) -> usize
+fn read_some<R: Read>(input: &mut R, text: &mut [u8]) -> usize
     ensures { result ≤ length text.old }
 {
-    let got = libc::read(libc::STDIN_FILENO, text);
-    io::count(got, text)
+    input.read(text).unwrap_or(0)
 }
 
-fn read_from(text: &mut [u8], at: usize) -> usize
+fn read_from<R: Read>(input: &mut R, text: &mut [u8], at: usize) -> usize
     requires { at ≤ length text.old }
     ensures { at + result ≤ length text.old }
 {
-    read_some(&mut text[at..])
+    read_some(input, &mut text[at..])
 }
 
 // Reads a block behind the first `held` characters.
-fn read_behind(text: &mut [u8; TEXT], held: usize, overlong: bool) -> Reader
+fn read_behind<R: Read>(input: &mut R, text: &mut [u8; TEXT], held: usize, overlong: bool) -> Reader
     requires { InText held }
     ensures { Sound result }
 {
     let s: &mut [u8] = text;
-    let count = read_from(s, held);
+    let count = read_from(input, s, held);
     let ended = count == 0;
     Reader {
         from: 0,
@@ -144,18 +146,18 @@ fn read_behind(text: &mut [u8; TEXT], held: usize, overlong: bool) -> Reader
 }
 
 // Reads a block. What is read of a line that is too long already is dropped; else it goes to the text's start, and a block has room behind it.
-fn read_block(text: &mut [u8; TEXT], r: Reader) -> Reader
+fn read_block<R: Read>(input: &mut R, text: &mut [u8; TEXT], r: Reader) -> Reader
     requires { Sound r }
     ensures { Sound result }
 {
     let from = r.from;
     let count = r.to - from;
     if count > MOST {
-        return read_behind(text, 0, true);
+        return read_behind(input, text, 0, true);
     }
     let s: &mut [u8] = text;
     keep(s, from, count);
-    read_behind(text, count, r.overlong)
+    read_behind(input, text, count, r.overlong)
 }
 
 // The line that ends at `end`, with `next` to go on from.
@@ -194,7 +196,7 @@ fn last(r: Reader) -> Step
 }
 
 // The next line, or the next block where no line is whole.
-pub fn next(text: &mut [u8; TEXT], r: Reader) -> Step
+pub fn next<R: Read>(input: &mut R, text: &mut [u8; TEXT], r: Reader) -> Step
     requires { Sound r }
     ensures { Stepped result }
 {
@@ -206,5 +208,5 @@ pub fn next(text: &mut [u8; TEXT], r: Reader) -> Step
     if r.ended {
         return last(r);
     }
-    no_line(MORE, read_block(text, r))
+    no_line(MORE, read_block(input, text, r))
 }

@@ -1,5 +1,6 @@
 // Records in a script's line, each as REC (`script_words::hex`): one and several, taken and printed, and the table that is lent to a call.
 #![tactic(auto)]
+
 pub mod blanks;
 pub mod rows;
 
@@ -7,7 +8,7 @@ use casm::bytes::{bytes_of, record_of};
 use layout::edition::Edition;
 use layout::record::{Form, Record, SecondTable};
 use layout::size::{HELD, SECOND_RECORD};
-use script_text::print::{OUT, put, put_bytes, put_digits};
+use script_text::print::{Printed, put, put_bytes, put_digits};
 use script_words::hex::{byte_of, is_second, position_of, store_pairs};
 
 // The Cntt value of a REC: its two hex digits, or `-` for absent.
@@ -46,7 +47,7 @@ pub fn record_from(word: &[u8]) -> Record {
 }
 
 // A second table and a position behind a record's bytes.
-fn put_cntt(out: &mut [u8; OUT], used: usize, second: SecondTable, position: u8) -> usize {
+fn put_cntt(out: &mut Printed, used: usize, second: SecondTable, position: u8) -> usize {
     let parted = put(out, used, b':');
     let after = match second {
         SecondTable::Absent => put(out, parted, b'-'),
@@ -57,7 +58,7 @@ fn put_cntt(out: &mut [u8; OUT], used: usize, second: SecondTable, position: u8)
 }
 
 // Prints a record as REC.
-pub fn put_record(out: &mut [u8; OUT], used: usize, r: Record) -> usize {
+pub fn put_record(out: &mut Printed, used: usize, r: Record) -> usize {
     let bytes = bytes_of(r);
     let form = r.form;
     match form {

@@ -2,7 +2,7 @@
 use crate::blanks::blank_table;
 use crate::{put_record, record_from};
 use layout::record::Record;
-use script_text::print::{OUT, put};
+use script_text::print::{Printed, put};
 use script_words::hex::is_rec;
 use script_words::word::{is_past, next, word_at};
 
@@ -36,7 +36,7 @@ pub fn take_records(line: &[u8], at: usize) -> Rows {
 }
 
 // The first `count` records, a space before each.
-pub fn put_records(out: &mut [u8; OUT], used: usize, records: [Record; 32], count: usize) -> usize {
+pub fn put_records(out: &mut Printed, used: usize, records: [Record; 32], count: usize) -> usize {
     let mut after = used;
     let mut i: usize = 0;
     while i < 32 && i < count {

@@ -1,0 +1,10 @@
+-- What falls is how much of the text is left.
+use lib.ListN.{length}
+use Prim.Native.Nat.{◌-◌}
+use Rattle.script_text.proofs.print.put_text.Given as goal
+
+abbrev pub invariant-loop-i : goal.invariant-loop-i
+invariant-loop-i l = Unit {0}
+
+abbrev pub decreases-loop-i : goal.decreases-loop-i
+decreases-loop-i l = length l.text - l.i
