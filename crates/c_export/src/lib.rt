@@ -1,5 +1,6 @@
 // The calls of the face for programs in C (include/casm.h): numbers, lent bytes and plain structs cross, and every call takes every input.
 #![tactic(auto)]
+
 pub mod answer;
 pub mod asking;
 pub mod changing;

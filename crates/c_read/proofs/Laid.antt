@@ -10,7 +10,7 @@ use borrow.Rule.Slice.PartMut.{mid_of, put_mid}
 use Rattle.layout.specs.Records.{laid_out, second_in, position_in}
 use Rattle.layout.specs.declared.record.Record.{Record}
 use Rattle.layout.proofs.Lists.{flat_map_last}
-use Rattle.layout.proofs.Records.{laid_length as laid_out}
+use Rattle.layout.proofs.Records.{laid_length as laid_long}
 use Rattle.write_chunks.proofs.Tails.{tail_written}
 use Rattle.c_row.specs.Rows.{has_of, value_of}
 use Rattle.c_row.specs.Flat.{row_size, row_bytes}
@@ -19,7 +19,7 @@ use Rattle.c_row.specs.Flat.{row_size, row_bytes}
 
 pub row_length : (r : Record) → length (row_bytes r) ≡ row_size
 unfolding row_bytes
-row_length r = omega (arith, length-append (laid_out r) (has_of (second_in r) ∷ value_of (second_in r) ∷ position_in r ∷ []), laid_out r)
+row_length r = omega (arith, length-append (laid_out r) (has_of (second_in r) ∷ value_of (second_in r) ∷ position_in r ∷ []), laid_long r)
 
 -- a row is put over as many bytes
 pub row_put : (r : Record) (b old xs : List ℕ) → b ≡ row_bytes r → xs ≡ b ++ drop (length b) old → xs ≡ row_bytes r ++ drop row_size old

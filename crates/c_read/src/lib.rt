@@ -1,5 +1,6 @@
 // A group's records laid into a flat table, 51 bytes each. They are read one at a time: no table of them is made.
 #![tactic(auto)]
+
 ghost use Rattle.std.specs.Prelude.{◌≡◌, ◌≤◌, ◌++◌, length, drop};
 ghost use Rattle.c_row.specs.Flat.{row_size, row_bytes, RowsRead};
 

@@ -1,0 +1,8 @@
+-- The face's promise, for the record that the row stands for and what the number asks.
+use Rattle.c_export.proofs.Crossed.{edited_by}
+use Rattle.c_export.proofs.changing.casm_edit.Goals as goal
+
+pub returns : goal.returns
+returns c =
+    let asked = c in
+    edited_by _ _ _ _ _ _ _ _ _ asked.recorded-new.ensures asked.override_by-asked.ensures c.edit_record-x.ensures
