@@ -32,7 +32,7 @@ pub use contract.Monad.{Fun, fact}
 pub use contract.Running.{tables}
 unfoldable pub use contract.Running.{tables_of}
 -- ---- steps
-pub use types.Kit.{!, Item, Sq, ◌$◌, ◌∵◌, ◌⊛◌, any_q, at_ret, await, by, done, drop, feq_i, feq_l, fjoin, fjoin3, fpack, fpick, frame, fsplit, fsplit3, join, keep, later, move, now as at_once, pick, qed, raw, rewrite, runs, show, some, split, suffices, updating, use1, use2, use3, ‵, ⋆}
+pub use types.Kit.{ !, Item, Sq, ◌$◌, ◌∵◌, ◌⊛◌, any_q, at_ret, await, by, done, drop, feq_i, feq_l, fjoin, fjoin3, fpack, fpick, frame, fsplit, fsplit3, join, keep, later, move, now as at_once, pick, qed, raw, rewrite, runs, show, some, split, suffices, updating, use1, use2, use3, ‵, ⋆}
 pub use types.Run.{Below, addr, again, alloc0, alloc1, and_then, assigns, assigns_last, bin, blocks, enter, exec, false_lit, first, fld, forget, free0, free1, from, hop, init, land, leaves_loop, lit, load, look, look_raw, loops, no_more, of_opd, params1, pass0, pass1, returns, stays, stop, store, store_raw, true_lit}
 pub use types.Part.{agg, look_in, sub, whole}
 pub use types.SemTy.{Arr, Body, cells}

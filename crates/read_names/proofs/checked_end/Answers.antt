@@ -1,5 +1,5 @@
 -- No comma stands from i up to k, and the bytes there are 20H to 7EH; at a comma or the text's end the name is cut off.
-use Prim.Native.Nat.{◌+◌, ◌-◌}
+use Prim.Native.Nat.{◌+◌}
 use native.Mathlib.Omega.{arith}
 use mathlib.Core.Path.{refl, sym, ◌∙◌}
 use mathlib.Core.Bool.{true}

@@ -1,5 +1,4 @@
 -- The names before number k are others, so the answer is that of the names from number k on.
-use Prim.Native.Nat.{◌-◌}
 use native.Mathlib.Omega.{arith}
 use mathlib.Core.Path.{refl, sym, ◌∙◌}
 use mathlib.Core.Bool.{true, false}

@@ -1,5 +1,4 @@
 -- The first k bytes are the same, so the whole answer is that of what is left of both.
-use Prim.Native.Nat.{◌-◌}
 use native.Mathlib.Omega.{arith}
 use mathlib.Core.Path.{sym, ◌∙◌}
 use mathlib.Core.Bool.{true, false}

@@ -1,5 +1,4 @@
 -- The names before i keep the rules, are all different, and are known by where they end and by their bits; one law for each way out.
-use Prim.Native.Nat.{◌-◌}
 use native.Mathlib.Omega.{arith}
 use mathlib.Core.Path.{sym, ◌∙◌}
 use lib.ListN.{length-take, length-drop}

@@ -1,5 +1,4 @@
 -- The mark of the whole is what the bytes from k on make of m; m stays below 2^32.
-use Prim.Native.Nat.{◌-◌}
 use native.Mathlib.Omega.{arith}
 use mathlib.Core.Path.{sym, ◌∙◌}
 use borrow.Author.Rules.{rules}

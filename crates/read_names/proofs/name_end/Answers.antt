@@ -1,5 +1,4 @@
 -- No comma stands from i up to k; at a comma or the text's end the name is cut off.
-use Prim.Native.Nat.{◌-◌}
 use native.Mathlib.Omega.{arith}
 use mathlib.Core.Path.{◌∙◌}
 use borrow.Author.Rules.{rules}

@@ -1,8 +1,7 @@
 -- What is still to be read is the run from Cntt number j on; the table holds the channels so far. j goes up.
-use Prim.Native.Nat.{◌-◌}
 use mathlib.Core.Path.{refl, sym, ◌∙◌}
 use native.Mathlib.Omega.{arith}
-use Rattle.layout.specs.Group.{cntt_turn, cntts_of}
+use Rattle.layout.specs.Group.{cntts_of}
 use Rattle.layout.proofs.Runs.{run_stop, run_done, run_more}
 use Rattle.layout.proofs.Cntts.{cntt_turn_more, cntt_fits}
 use Rattle.read_group.proofs.SeenLaws.{seen_start}

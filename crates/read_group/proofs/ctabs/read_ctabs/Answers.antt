@@ -1,9 +1,7 @@
 -- What is still to be read is the run from Ctab number n on; the table holds the channels so far. n goes up.
-use Prim.Native.Nat.{◌-◌}
 use mathlib.Core.Path.{refl, sym, ◌∙◌}
 use native.Mathlib.Omega.{arith}
-use Rattle.layout.specs.Scan.{run}
-use Rattle.layout.specs.Group.{ctab_place, ctab_turn, ctabs_of}
+use Rattle.layout.specs.Group.{ctabs_of}
 use Rattle.layout.proofs.Runs.{run_stop, run_done, run_more, not_ended}
 use Rattle.layout.proofs.Ctabs.{turn_more, ctab_fits, ctab_byte, channel_small}
 use Rattle.read_group.proofs.SeenLaws.{seen_start}

@@ -1,5 +1,4 @@
 -- What is still to be looked at is the whole search from byte k on, and `rule` is the byte before it; k goes up.
-use Prim.Native.Nat.{◌-◌}
 use mathlib.Core.Path.{refl, sym, ◌∙◌}
 use native.Mathlib.Omega.{arith}
 use borrow.Author.Rules.{rules}
