@@ -1,16 +1,16 @@
 # Read by bench/run, bench/header, examples/build, .ci/script and .ci/compare, which set `here` to the repository's folder: where the kit's C tools are, and how a program is built over the archive and started.
-machine=$(uname -m)
-home=${RATTLE_HOME:-$(dirname "$(dirname "$(rt doc)")")}
-kit=$home/on/$machine/toolchain
+# The archive is for x86-64 Linux.
+kit=$(dirname "$(rt doc)")/toolchain
 lib=$here/target/staticlib
 
 # The archive, proved and written where a crate changed since. What rt says is printed where it fails.
 archive() {
     stamp=$lib/written
-    if [ ! -f "$lib/libc_export.a" ] || [ ! -f "$stamp" ] || [ -n "$(find "$here/crates" "$here/crates.txt" -newer "$stamp" -print -quit)" ]; then
+    if [ ! -f "$lib/libc_export.a" ] || [ ! -f "$stamp" ] || [ -n "$(find "$here/crates" "$here/crates.txt" -type f -newer "$stamp" -not -path '*/out/*' -print -quit)" ]; then
         mkdir -p "$lib"
         touch "$stamp.begun"
-        said=$(cd "$here" && rt staticlib c_export 2>&1) || { echo "$said"; echo "rt staticlib c_export failed"; exit 1; }
+        said=$(cd "$here/crates/c_export_c" && rt lib 2>&1) || { echo "$said"; echo "rt lib failed in crates/c_export_c"; exit 1; }
+        cp "$here/crates/c_export_c/out/libc_export_c.a" "$lib/libc_export.a"
         mv "$stamp.begun" "$stamp"
     fi
 }
@@ -30,13 +30,9 @@ link() {
         "$@" libc_export.a "$kit/lib/libc.so.6" "$kit/lib/libc_nonshared.a" "$kit/lib/libgcc.a" "$kit/lib/crtendS.o" "$kit/lib/crtn.o")
 }
 
-# start PROGRAM WORD ..: the archive is for x86-64; elsewhere the kit has an emulator, a loader and a C library for it.
+# start PROGRAM WORD ..
 start() {
     program=$1
     shift
-    if [ "$machine" = x86_64 ]; then
-        "$lib/$program" "$@"
-    else
-        "$kit/bin/qemu-x86_64" "$kit/lib/ld-linux-x86-64.so.2" --library-path "$kit/lib" "$lib/$program" "$@"
-    fi
+    "$lib/$program" "$@"
 }

@@ -1,16 +1,17 @@
 -- Folding by remainders is the folding of the definitions: the machine's remainder below zero, the ways out of folding, and what is then heard.
-use Prim.Native.Nat.{ℕ, zero, suc, ◌+◌, ◌-◌, ◌*◌, ◌/◌, ◌%◌, ◌<◌}
+use Prim.Native.Nat.{ℕ, zero, suc, ◌+◌, ◌-◌, ◌*◌, ◌/◌, ◌%◌, ◌≤◌, ◌<◌}
 use mathlib.Core.Path.{◌≡◌, refl, sym, ◌∙◌, ap}
 use mathlib.Core.Bool.{Bool, true, false}
 use native.Mathlib.Omega.{arith}
-use borrow.Author.Tests.{ltb-true}
+use borrow.Author.Tests.{ltb-true, ltb-false}
+use lib.Dec.{T}
 use lib.IntN.{ℤ, pos, negsuc, neg_ℤ, nat_abs, ◌+ℤ◌, ◌-ℤ◌}
-use lib.Signed.{mag, lt_z, rem_z}
+use lib.Signed.{mag, lt_z, rem_z, quot_z, non_neg}
 use mir.Syntax.{w32}
-use mir.Val.{to_z, of_z}
+use mir.Val.{SFits, to_z, of_z}
 use Rattle.layout.specs.Place.{octaves, folded, nearest, heard}
 use Rattle.ask_place.specs.Octaves.{remainder}
-use Rattle.ask_place.proofs.Signed.{never, sub_same, sub_up, sub_down, pos_pos, negsuc_pos, mag_sub, u8_reads, reads_back}
+use Rattle.ask_place.proofs.Signed.{never, sub_same, sub_up, sub_down, pos_pos, negsuc_pos, mag_sub, fits, u8_reads, reads_back}
 
 -- ---- the remainder that the machine gives
 
@@ -21,6 +22,14 @@ rem_small (negsuc a) = go (suc a % 12) (omega arith)
     go : (m : ℕ) → m < 12 → mag (neg_ℤ (pos m)) < 12
     go zero h = omega arith
     go (suc m) h = omega arith
+
+pub quot_small : (x : ℤ) → mag (quot_z x (pos 12)) ≤ mag x + 1
+quot_small (pos a) = omega arith
+quot_small (negsuc a) = go (suc a / 12) (omega arith)
+  where
+    go : (q : ℕ) → q ≤ suc a → mag (neg_ℤ (pos q)) ≤ a + 1
+    go zero h = omega arith
+    go (suc q) h = omega arith
 
 -- below zero an octave is added
 pub rem_below : (x : ℤ) → lt_z (rem_z x (pos 12)) (pos 0) ≡ true → rem_z x (pos 12) +ℤ pos 12 ≡ pos (remainder x)
@@ -50,7 +59,7 @@ remainder_small (negsuc a) = omega arith
 pub rest_reads : (x m : ℤ) → m ≡ pos (remainder x) → to_z w32 (of_z w32 m) ≡ pos (remainder x)
 rest_reads x m e = rw e (reads_back (pos (remainder x)) (omega (arith, remainder_small x)))
 
--- how far a value lies past a limit: the bits of the difference read back near, and its remainder reads back
+-- how far a value lies past a limit: the bits of the difference fit, read back near, and its remainder reads back
 module _ (v : ℤ) (n : ℕ) (hv : mag v < 4096) (hn : n < 256) where
   abbrev past : ℤ
   past = to_z w32 (of_z w32 v) -ℤ to_z w32 n
@@ -63,6 +72,12 @@ module _ (v : ℤ) (n : ℕ) (hv : mag v < 4096) (hn : n < 256) where
 
   past_reads : to_z w32 (of_z w32 past) ≡ v -ℤ pos n
   past_reads = rw is_past (reads_back (v -ℤ pos n) (omega (arith, near)))
+
+  pub past_fits : SFits w32 past
+  past_fits = rw is_past (fits (v -ℤ pos n) (omega (arith, near)))
+
+  pub past_near : mag (to_z w32 (of_z w32 past)) < 8192
+  past_near = rw past_reads near
 
   pub past_rest : (m : ℤ) → m ≡ pos (remainder (to_z w32 (of_z w32 past))) → to_z w32 (of_z w32 m) ≡ pos (remainder (v -ℤ pos n))
   past_rest m e = rest_reads (v -ℤ pos n) m (rw past_reads at e)
@@ -121,3 +136,8 @@ module _ (v : ℤ) (low high : ℕ) where
       pub heard_note : lt_z (pos high) n ≡ false → heard v low high ≡ nat_abs n
       unfolding heard
       heard_note h = rw (← e, g, h)
+
+-- what lies within the limits is a byte
+pub within_byte : (n : ℤ) (low high : ℕ) → high < 256 → lt_z n (pos low) ≡ false → lt_z (pos high) n ≡ false → T (non_neg n) × (nat_abs n < 256)
+within_byte (pos a) low high hh g h = (tt, omega (arith, ltb-false high a h))
+within_byte (negsuc a) low high hh g h = never (cc)

@@ -3,7 +3,7 @@ use Prim.Native.Nat.{ℕ, ◌≤◌, ◌<◌}
 use mathlib.Core.Path.{◌≡◌, sym, ap, ◌∙◌}
 use mathlib.Core.Bool.{Bool, true, false, ◌||◌, true≢false}
 use mathlib.Core.List.{List}
-use borrow.Author.Tests.{lt-ltb, le-ltb, leb-false, ne_eqb}
+use borrow.Author.Tests.{lt-ltb, le-ltb, lt-leb, le-leb, leb-false, ne_eqb}
 use lib.Dec.{eqb, leb}
 use lib.ListN.{get_or}
 use lib.IntN.{ℤ, pos, ◌+ℤ◌, ◌-ℤ◌}
@@ -73,9 +73,16 @@ module _ (set : Set) (table from root n : ℕ) where
   unfolding by_set
   set_shifted f by e = rw (f, e)
 
--- ---- a note that is one
+-- ---- a chord root and a note that are none
 
 module _ (root n : ℕ) where
+  pub number_root : 12 ≤ root → true ≡ leb root_count root || leb note_count n
+  number_root h = sym (rw (le-leb 12 root h))
+
+  pub number_note : root < 12 → leb note_count n ≡ leb root_count root || leb note_count n
+  number_note h = sym (rw (lt-leb 12 root h))
+
+  -- .. and a note that is one
   pub note_some : (none : Bool) → none ≡ leb root_count root || leb note_count n → none ≡ false → n < note_count
   note_some none told some = leb-false note_count n (other (leb root_count root) (leb note_count n) (sym told ∙ some))
     where
