@@ -15,16 +15,14 @@ use Rattle.layout.specs.Group.{head_fault, group_at}
 use Rattle.layout.specs.Scan.{first, run}
 use Rattle.layout.specs.Body.{group_place, sharing, unlike_body, group_turn_at, group_turn}
 use Rattle.layout.specs.declared.edition.Edition.{Edition}
-use Rattle.layout.specs.declared.edition.Edition.TheVariants.{First}
 use Rattle.layout.specs.declared.turn.Turn.{Turn}
 use Rattle.layout.specs.declared.turn.Turn.TheVariants.{Refused, More, Done}
 use Rattle.layout.specs.declared.turn.Judged.TheVariants.{Unsound, Sound}
 use Rattle.layout.specs.declared.turn.Run.TheVariants.{Stopped, Ended}
 use Rattle.layout.proofs.Scans.{first_passed, first_stands, first_within}
-use Rattle.layout.proofs.Runs.{run_stop, run_done, run_more, ended_once, not_ended}
+use Rattle.layout.proofs.Runs.{run_stop, run_done, run_more, not_ended}
 use Rattle.layout.proofs.Groups.{cseg_tag}
 use Rattle.layout.proofs.GroupPlaces.{group_place_lem}
-use Rattle.layout.proofs.GroupSound.{group_sound_is}
 use Rattle.layout.proofs.HeadsThere.{head_drop}
 use Rattle.layout.proofs.Sixteen.{group_sixteen, group_cntts}
 use Rattle.layout.proofs.Bodies.{turn_end, turn_head, turn_many, turn_unsound, turn_unlike, turn_sound, group_there}

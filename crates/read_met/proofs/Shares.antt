@@ -11,7 +11,7 @@ use Rattle.layout.specs.Scan.{first}
 use Rattle.layout.specs.Sdec.{names}
 use Rattle.layout.specs.Body.{group_place, text_at}
 use Rattle.layout.proofs.Scans.{first_within, first_stands, first_passed, first_none, first_is, first_alike}
-use Rattle.read_names.specs.Marks.{mark_from, spread, mark}
+use Rattle.read_names.specs.Marks.{spread, mark}
 use Rattle.read_met.specs.Table.{looked_at}
 use Rattle.read_met.specs.Before.{taken, taken_in, again, again_in}
 use Rattle.read_met.proofs.Sharing.{sharing_taken}

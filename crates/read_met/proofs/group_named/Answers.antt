@@ -1,5 +1,4 @@
 -- The groups are asked one after the other, the texts where they lie; k goes up.
-use Prim.Native.Nat.{◌-◌}
 use mathlib.Core.Path.{sym, ◌∙◌}
 use native.Mathlib.Omega.{arith}
 use Rattle.read_met.proofs.Texts.{places_fewer}

@@ -1,5 +1,4 @@
 -- Safe, and it ends: the count is small before each text is added. What it answers decides only how many passes are made.
-use Prim.Native.Nat.{◌-◌}
 use native.Mathlib.Omega.{arith}
 use Rattle.read_met.proofs.Texts.{places_fewer}
 use Rattle.read_met.proofs.is_crowded.Goals as goal

@@ -1,5 +1,4 @@
 -- The names are passed one after the other: those before i are met and none is taken, so the answer is that of the names from i on.
-use Prim.Native.Nat.{◌-◌}
 use native.Mathlib.Omega.{arith}
 use Rattle.read_met.proofs.Texts.{places_fewer}
 use Rattle.read_met.proofs.Marked.{passing_start, passing_taken, passing_next, passing_end}

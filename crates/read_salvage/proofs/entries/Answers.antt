@@ -1,5 +1,4 @@
 -- n entries are counted, and stand in the lent list where they are stored; those from i on are still to come. i goes up to the end, where none is.
-use Prim.Native.Nat.{◌-◌}
 use Rattle.read_salvage.proofs.Filling.{filling_start, filling_fits, filling_turn, filling_end}
 use borrow.Author.Rules.{rules}
 use Rattle.read_salvage.proofs.entries.Goals as goal

@@ -1,8 +1,6 @@
 -- No CSEG stands from `from` on below k. Where none stands at k, the byte three places on says how many places more have none; k goes up to the end.
-use Prim.Native.Nat.{◌-◌}
 use native.Mathlib.Omega.{arith}
 use mathlib.Core.Path.{sym, ◌∙◌}
-use mathlib.Core.Bool.{false}
 use Rattle.read_salvage.proofs.Letters.{tail_none, skip_none}
 use borrow.Author.Rules.{rules}
 use Rattle.read_salvage.proofs.next_cseg.Goals as goal

@@ -1,9 +1,7 @@
 -- What is still to be read is the run from section number n on, which stands at `at`; `casm` is the place of the CASM tag so far. n goes up.
-use Prim.Native.Nat.{◌-◌}
 use mathlib.Core.Path.{refl, sym, ◌∙◌}
 use native.Mathlib.Omega.{arith}
-use Rattle.layout.specs.Scan.{run}
-use Rattle.layout.specs.Style.{section_turn, sections_run}
+use Rattle.layout.specs.Style.{sections_run}
 use Rattle.layout.proofs.Runs.{run_stop, run_done, run_more, not_ended}
 use Rattle.read_style.proofs.SectionLaws.{section_more, turn_at, walk_start, walk_next}
 use Rattle.read_style.proofs.CasmLaws.{casm_start, casm_next, ended_casm}

@@ -1,5 +1,4 @@
 -- After k turns the first k Cntts stand in the buffer; k goes up to n.
-use Prim.Native.Nat.{◌-◌}
 use Rattle.write_plan.proofs.Down.{cntts_none}
 use Rattle.write_chunks.proofs.Putting.{putting_start, putting_end, cntts_on}
 use borrow.Author.Rules.{rules}
