@@ -9,7 +9,7 @@ function spelled(text) {
 }
 
 # The first edition's bytes: those that the editions share, its rule and table, what follows them in a set, and the rest of its own.
-FILENAME ~ /Ranges\.antt$/ && /^(commonRanges|setRanges .*|ranges First) =/ { list = $1 == "ranges" ? "first" : $1 }
+FILENAME ~ /Ranges\.antt$/ && /^(common_ranges|set_ranges .*|ranges First) =/ { list = $1 == "ranges" ? "first" : $1 }
 FILENAME ~ /Ranges\.antt$/ && list != "" {
     line = $0
     while (match(line, /0x[0-9A-F]+ to 0x[0-9A-F]+/)) {
@@ -27,7 +27,7 @@ FILENAME ~ /Ranges\.antt$/ && second && !/^ *--/ {
         line = substr(line, RSTART + RLENGTH)
         if (token == ") table") {
             later[20 + laters++] = "00-8A"
-            for (k = 0; k < many["setRanges"]; k++) later[20 + laters++] = bytes_of["setRanges", k]
+            for (k = 0; k < many["set_ranges"]; k++) later[20 + laters++] = bytes_of["set_ranges", k]
             continue
         }
         split(token, bound, / to /)
@@ -37,20 +37,20 @@ FILENAME ~ /Ranges\.antt$/ && second && !/^ *--/ {
 }
 FILENAME ~ /Ranges\.antt$/ && /^ranges Second =/ {
     second = 1
-    for (k = 0; k < many["commonRanges"]; k++) range[bytes++] = bytes_of["commonRanges", k]
+    for (k = 0; k < many["common_ranges"]; k++) range[bytes++] = bytes_of["common_ranges", k]
     for (k = 0; k < 2; k++) range[bytes++] = bytes_of["first", k]
-    for (k = 0; k < many["setRanges"]; k++) range[bytes++] = bytes_of["setRanges", k]
+    for (k = 0; k < many["set_ranges"]; k++) range[bytes++] = bytes_of["set_ranges", k]
     for (k = 2; k < many["first"]; k++) range[bytes++] = bytes_of["first", k]
 }
 
-FILENAME ~ /Plays\.antt$/ && /^chordTypes =/ { inside = 1 }
+FILENAME ~ /Plays\.antt$/ && /^chord_types =/ { inside = 1 }
 FILENAME ~ /Plays\.antt$/ && inside {
     n = split($0, quoted, "\"")
     for (i = 2; i <= n; i += 2) chord[types++] = quoted[i]
     if (/∷ \[\]/) inside = 0
 }
 
-FILENAME ~ /Refusals\.antt$/ && /^[a-zA-Z]+ = [0-9]+$/ { number[$1] = $3; numbers++ }
+FILENAME ~ /Refusals\.antt$/ && /^[a-z_]+ = [0-9]+$/ { number[$1] = $3; numbers++ }
 
 FILENAME !~ /LAYOUT\.md$/ { next }
 /^## / { part = substr($0, 4) }
@@ -75,7 +75,7 @@ part == "The record of the second edition" && cell[2] ~ /^[0-9]+(-[0-9]+)?$/ {
 part == "Who plays" && cell[2] ~ /^[0-9]+-[0-9]+$/ {
     split(cell[2], place, "-"); names = cell[4]; sub(/;.*/, "", names); split(names, told, ", ")
     for (k = place[1] + 0; k <= place[2] + 0; k++) {
-        if (told[k - place[1] + 1] != chord[k]) print "docs/LAYOUT.md: chord type " k " is " told[k - place[1] + 1] ", and " chord[k] " in Plays.chordTypes"
+        if (told[k - place[1] + 1] != chord[k]) print "docs/LAYOUT.md: chord type " k " is " told[k - place[1] + 1] ", and " chord[k] " in Plays.chord_types"
         named++
     }
     if (cell[3] != 17 - int(place[1] / 8)) print "docs/LAYOUT.md: types " cell[2] " stand in byte " 17 - int(place[1] / 8) ", and not in " cell[3]
@@ -89,6 +89,6 @@ part == "Refusals" && cell[5] ~ /^`Refusals\./ {
 END {
     if (met != bytes || bytes == 0) print "docs/LAYOUT.md has " met + 0 " bytes of the record, Ranges.ranges " bytes + 0
     if (metLater != laters || laters != 27) print "docs/LAYOUT.md has " metLater + 0 " bytes of a Ctb2 from 20 on, Ranges.ranges " laters + 0
-    if (named != types || types == 0) print "docs/LAYOUT.md has " named + 0 " chord types, Plays.chordTypes " types + 0
+    if (named != types || types == 0) print "docs/LAYOUT.md has " named + 0 " chord types, Plays.chord_types " types + 0
     if (refused != numbers - 1) print "docs/LAYOUT.md has " refused + 0 " refusals, Refusals " numbers - 1
 }

@@ -16,8 +16,8 @@ function joined(text, line) {
 
 # The names of a `use` line, as this file knows them.
 function import(line, crate, rest, names, n, i) {
-    if (line !~ /Rattle·.*specs\.[A-Za-z]+\.\{/) return
-    sub(/^.*Rattle·/, "", line)
+    if (line !~ /Rattle\..*specs\.[A-Za-z]+\.\{/) return
+    sub(/^.*Rattle\./, "", line)
     match(line, /^[a-z_]+/); crate = substr(line, 1, RLENGTH)
     rest = line; sub(/\.\{.*/, "", rest); sub(/^.*specs\./, "", rest)
     if (rest ~ /\./) return
@@ -78,7 +78,7 @@ kind == "specs" && /^(pub )?use / { import($0) }
 kind == "specs" && /^ *-- ---- / { close_def(); section = $0; sub(/^ *-- ---- /, "", section); comment = "" }
 kind == "specs" && /^ *-- / && !/^ *-- ---- / && def == "" { line = $0; sub(/^ *-- /, "", line); comment = comment (comment == "" ? "" : " ") line }
 kind == "specs" && /^ *$/ { close_def(); comment = "" }
-kind == "specs" && def == "" && (/^ *(unfoldable |abbrev )pub / || /^pub (record |data )/ || /^pub [a-zA-Z-]+ :/) {
+kind == "specs" && def == "" && (/^ *(unfoldable |abbrev )pub / || /^pub (record |data )/ || /^pub [a-zA-Z_-]+ :/) {
     name = $0
     sub(/^ *(unfoldable |abbrev )?pub (record |data )?/, "", name); sub(/[ :].*/, "", name)
     def = module_key "." name
@@ -99,7 +99,8 @@ kind == "src" && /^pub use [a-z_:]+;/ && crate == "casm" {
 }
 kind == "src" && /^\/\/ / { comment = comment (comment == "" ? "" : " ") substr($0, 4) }
 kind == "src" && /^ *$/ { comment = "" }
-kind == "src" && /^(pub |pub\(crate\) )?(extern "C" )?fn / {
+# The exports of c_export_c are the calls of c_export again.
+kind == "src" && crate != "c_export_c" && /^(pub |pub\(crate\) )?(extern "C" )?fn / {
     name = $0; sub(/^.*fn /, "", name); sub(/[(<].*/, "", name)
     fn = crate == "casm" ? base "::" name : crate == "c_export" ? name : crate "::" name
     if (fn in signature) fn = fn " of " base
@@ -110,7 +111,7 @@ kind == "src" && /^(pub |pub\(crate\) )?(extern "C" )?fn / {
 kind == "src" && fn != "" && in_sig && /^(    (requires|ensures) |\{)/ { in_sig = 0 }
 kind == "src" && fn != "" && in_sig { line = $0; sub(/^ +/, "", line); sub(/ *\{$/, "", line); signature[fn] = joined(signature[fn], line) }
 kind == "src" && fn != "" && /^    (requires|ensures) / {
-    line = $0; sub(/^[^⌜]*⌜ */, "", line); sub(/ *⌝.*$/, "", line)
+    line = $0; sub(/^[^{]*\{ */, "", line); sub(/ *\}$/, "", line)
     contract[fn] = contract[fn] " " line
     if (/^    ensures/) promise[fn] = add(promise[fn], line)
 }
