@@ -1,8 +1,8 @@
 /* plays FILE PART ROOT TYPE: who plays in a style file for a part, a chord root (0-11, C is 0) and a chord type (0-33).
  *
- * rt staticlib c_export && cc -Iinclude examples/plays.c target/staticlib/libc_export.a -o plays    (x86-64 Linux)
+ * cc -Iinclude examples/plays.c target/staticlib/libc_export.a -o plays    (x86-64 Linux; bench/kit.sh writes the archive)
  *
- * With the kit's clang, here or on Arm: examples/build. */
+ * With the kit's clang: examples/build. */
 #include "style.h"
 
 int main(int count, char **words) {

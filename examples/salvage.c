@@ -1,8 +1,8 @@
 /* salvage FILE: reads the CASM section of a style file strictly; where it is damaged, lists what of it is sound and what is not.
  *
- * rt staticlib c_export && cc -Iinclude examples/salvage.c target/staticlib/libc_export.a -o salvage    (x86-64 Linux)
+ * cc -Iinclude examples/salvage.c target/staticlib/libc_export.a -o salvage    (x86-64 Linux; bench/kit.sh writes the archive)
  *
- * With the kit's clang, here or on Arm: examples/build. */
+ * With the kit's clang: examples/build. */
 #include "style.h"
 
 /* Room for the salvage list of any body, so that casm_salvage never refuses for want of it. */

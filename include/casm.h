@@ -1,4 +1,4 @@
-/* The CASM library for C, on x86-64 Linux: `rt staticlib c_export` proves it and writes target/staticlib/libc_export.a.
+/* The CASM library for C, on x86-64 Linux: `rt lib` in crates/c_export_c proves it; bench/kit.sh keeps it as target/staticlib/libc_export.a.
  *
  * Every call takes every input: no number, length or content of what is lent is wrong, and what cannot be done is refused.
  * An answer carries a number and a place. Number 0 accepts, at place 0. Any other number refuses; then every other field of the answer is 0
