@@ -15,16 +15,13 @@ returns-then-found-ne0 c =
     file_listed c.args.file.now c.args.out.now _ _ _ (text_refused c.args.file.now c.if-file-gt-LISTED.false c.find_casm-found.result c.find_casm-found.ensures c.if-found-ne0.true) c.put_refused-then-found-ne0.ensures
 
 pub overflow_add-start : goal.overflow_add-start
-overflow_add-start c =
-    omega (arith, (stands c.args.file.now c.if-file-gt-LISTED.false c.find_casm-found.result c.find_casm-found.ensures c.if-found-ne0.false).0)
+overflow_add-start c = omega (arith, (stands c.args.file.now c.if-file-gt-LISTED.false c.find_casm-found.result c.find_casm-found.ensures c.if-found-ne0.false).0)
 
 pub overflow_add-end : goal.overflow_add-end
-overflow_add-end c =
-    omega (arith, (stands c.args.file.now c.if-file-gt-LISTED.false c.find_casm-found.result c.find_casm-found.ensures c.if-found-ne0.false).0)
+overflow_add-end c = omega (arith, (stands c.args.file.now c.if-file-gt-LISTED.false c.find_casm-found.result c.find_casm-found.ensures c.if-found-ne0.false).0)
 
 pub slice_bounds-list_body-end : goal.slice_bounds-list_body-end
-slice_bounds-list_body-end c =
-    omega (arith, (stands c.args.file.now c.if-file-gt-LISTED.false c.find_casm-found.result c.find_casm-found.ensures c.if-found-ne0.false).0)
+slice_bounds-list_body-end c = omega (arith, (stands c.args.file.now c.if-file-gt-LISTED.false c.find_casm-found.result c.find_casm-found.ensures c.if-found-ne0.false).0)
 
 pub list_body-requires : goal.list_body-requires
 list_body-requires c =
