@@ -2,7 +2,7 @@
 #![tactic(auto)]
 use tool_ends::{CANNOT, DONE, begin, complain_of, end, is_word, quoted, take_descriptors, tell};
 use tool_help::put_help;
-use tool_out::{OUT, OUTPUT, flush, is_failed, text, writer};
+use tool_out::{Out, OUTPUT, flush, is_failed, text, writer};
 
 // No such command.
 fn refuse(i: usize) -> u8 {
@@ -20,7 +20,7 @@ fn refuse(i: usize) -> u8 {
 }
 
 // Answers a command that shows a file or several.
-fn show(out: &mut [u8; OUT], i: usize, from: usize) -> u8 {
+fn show(out: &mut Out, i: usize, from: usize) -> u8 {
     if is_word(i, b"report") {
         return tool_shown::report(out, from);
     }
@@ -37,7 +37,7 @@ fn show(out: &mut [u8; OUT], i: usize, from: usize) -> u8 {
 }
 
 // Answers the command that is argument i.
-fn answer(out: &mut [u8; OUT], i: usize) -> u8 {
+fn answer(out: &mut Out, i: usize) -> u8 {
     if os::arg_count() <= i {
         put_help(out);
         return DONE;
@@ -63,7 +63,7 @@ fn answer(out: &mut [u8; OUT], i: usize) -> u8 {
 }
 
 // Where the first argument asks that the status is told, the command is the second.
-fn answer_first(out: &mut [u8; OUT], is_told: bool) -> u8 {
+fn answer_first(out: &mut Out, is_told: bool) -> u8 {
     if is_told {
         return answer(out, 2);
     }

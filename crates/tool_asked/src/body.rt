@@ -3,7 +3,7 @@ use casm::read::group_text;
 use tool_ends::{CANNOT, begin, end, quoted};
 use tool_look::list::LIST;
 use tool_look::{DAMAGED, Seen, file_place};
-use tool_out::{OUT, PLAIN, SHOWN, hex, number, text, text_as};
+use tool_out::{Out, PLAIN, SHOWN, hex, number, text, text_as};
 use tool_parts::put_parts;
 use tool_words::reasons::put_reason;
 
@@ -37,18 +37,16 @@ pub fn complain_unsound(
 }
 
 // The parts of all groups of a sound body.
-fn put_all_parts(out: &mut [u8; OUT], body: &[u8], groups: usize) {
-    let mut g: usize = 0;
-    while g < groups {
+fn put_all_parts(out: &mut Out, body: &[u8], groups: usize) {
+    for g in 0..groups {
         if 0 < g {
             text(out, b", ");
         }
         put_parts(out, SHOWN, group_text(body, g));
-        g += 1;
     }
 }
 
-fn put_there(out: &mut [u8; OUT], name: &[u8], body: &[u8], groups: usize) {
+fn put_there(out: &mut Out, name: &[u8], body: &[u8], groups: usize) {
     text(out, b"; the parts of ");
     text_as(out, SHOWN, name);
     text(out, b" are ");

@@ -24,10 +24,8 @@ fn put_both(rows: &mut [u8; ROWS], i: usize, value: u8) {
 
 // Fills both rows with a record of an edition.
 pub fn fill(rows: &mut [u8; ROWS], record: &[u8], is_second: bool) {
-    let mut i: usize = 0;
-    while i < 47 {
+    for i in 0..47 {
         put_both(rows, i, byte_at(record, i));
-        i += 1;
     }
     if is_second {
         put_both(rows, tool_rows::row::EDITION, 2);
@@ -48,10 +46,8 @@ fn is_voice_set(rows: &mut [u8; ROWS], given: &[u8]) -> bool {
     if 8 < given.len() {
         return false;
     }
-    let mut i: usize = 0;
-    while i < 8 {
+    for i in 0..8 {
         set_byte(rows, NEW, sum(i, 1), voice_byte(given, i));
-        i += 1;
     }
     true
 }
@@ -178,10 +174,8 @@ pub fn set_field(rows: &mut [u8; ROWS], field: Field, given: &[u8]) -> u8 {
 // The bytes of a row as a record is made of them.
 pub fn record_bytes(rows: &[u8; ROWS], k: usize) -> [u8; 47] {
     let mut b = [0u8; 47];
-    let mut i: usize = 0;
-    while i < 47 {
+    for i in 0..47 {
         b[i] = byte_of(rows, k, i);
-        i += 1;
     }
     b
 }

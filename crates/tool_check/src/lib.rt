@@ -9,7 +9,7 @@ use tool_ends::{CANNOT, DONE, NO};
 use tool_files::{FILE, READ, contents, read_file};
 use tool_look::list::LIST;
 use tool_look::look;
-use tool_out::{ERRORS, OUT, byte, count, flush, grouped, number, text, writer};
+use tool_out::{ERRORS, Out, byte, count, flush, grouped, number, text, writer};
 
 // What a file was: the verdicts of `tool_look`, and one that was not read.
 const KINDS: usize = 5;
@@ -18,7 +18,7 @@ const UNREAD: u8 = 4;
 
 // Checks the file that a path names, and says in a line what it is.
 fn check_path(
-    out: &mut [u8; OUT],
+    out: &mut Out,
     path: &[u8],
     is_json: bool,
     bytes: &mut [u8; FILE],
@@ -40,7 +40,7 @@ fn check_path(
 }
 
 fn check_argument(
-    out: &mut [u8; OUT],
+    out: &mut Out,
     i: usize,
     is_json: bool,
     bytes: &mut [u8; FILE],
@@ -82,7 +82,7 @@ fn is_watched(all: usize) -> bool {
 }
 
 fn check_all(
-    out: &mut [u8; OUT],
+    out: &mut Out,
     asked: Asked,
     bytes: &mut [u8; FILE],
     list: &mut [usize; LIST],
@@ -116,7 +116,7 @@ fn status_of(counts: &[usize; KINDS]) -> u8 {
 }
 
 // How many files there are of a kind, behind those before it.
-fn put_kind(out: &mut [u8; OUT], counts: &[usize; KINDS], k: usize, is_json: bool) {
+fn put_kind(out: &mut Out, counts: &[usize; KINDS], k: usize, is_json: bool) {
     if KINDS <= k {
         return;
     }
@@ -137,16 +137,14 @@ fn put_kind(out: &mut [u8; OUT], counts: &[usize; KINDS], k: usize, is_json: boo
     tool_out::word(out, &words);
 }
 
-fn put_kinds(out: &mut [u8; OUT], counts: &[usize; KINDS], is_json: bool) {
-    let mut k: usize = 0;
-    while k < KINDS {
+fn put_kinds(out: &mut Out, counts: &[usize; KINDS], is_json: bool) {
+    for k in 0..KINDS {
         put_kind(out, counts, k, is_json);
-        k += 1;
     }
 }
 
 // The last line.
-fn put_counts(out: &mut [u8; OUT], counts: &[usize; KINDS], asked: Asked) {
+fn put_counts(out: &mut Out, counts: &[usize; KINDS], asked: Asked) {
     if asked.is_json {
         text(out, b"{\"files\":");
         number(out, asked.words);
@@ -161,7 +159,7 @@ fn put_counts(out: &mut [u8; OUT], counts: &[usize; KINDS], asked: Asked) {
 }
 
 // `casm check FILE..`.
-pub fn check(out: &mut [u8; OUT], asked: Asked) -> u8 {
+pub fn check(out: &mut Out, asked: Asked) -> u8 {
     let mut bytes = tool_files::room();
     let mut list = tool_look::list::room();
     let mut counts = [0usize; KINDS];

@@ -5,7 +5,7 @@ pub mod wrong;
 
 pub use note::{parse_channel, parse_note};
 use tool_bytes::{byte_at, part, rest, sum};
-use tool_out::{OUT, trimmed_length};
+use tool_out::{Out, trimmed_length};
 use tool_words::masks::TYPES;
 use tool_words::{names, put_root};
 pub use wrong::{complain_channel, complain_chord, complain_note};
@@ -85,12 +85,10 @@ fn kind_of(text: &[u8]) -> usize {
     if text.len() == 0 {
         return 0;
     }
-    let mut k: usize = 0;
-    while k < 34 {
+    for k in 0..34 {
         if is_kind(text, (k % 256) as u8) {
             return k;
         }
-        k += 1;
     }
     34
 }
@@ -118,7 +116,7 @@ pub fn parse_chord(text: &[u8]) -> Chord {
 }
 
 // A chord as it is written: Maj is left off.
-pub fn put_name(out: &mut [u8; OUT], root: u8, kind: u8) {
+pub fn put_name(out: &mut Out, root: u8, kind: u8) {
     put_root(out, root);
     if kind != 0 {
         tool_words::put_chord(out, kind);

@@ -36,14 +36,12 @@ fn number_of(text: &[u8]) -> usize {
         return NONE;
     }
     let mut n: usize = 0;
-    let mut i: usize = 0;
-    while i < text.len() {
+    for i in 0..text.len() {
         let digit = digit_of(text[i]);
         if 9 < digit {
             return NONE;
         }
         n = with_digit(n, digit);
-        i += 1;
     }
     n
 }

@@ -1,11 +1,11 @@
 // What is told on standard error of a chord, a note or a channel that is none.
 use crate::{NO_ROOT, behind_root};
 use tool_ends::{CANNOT, begin, end, quoted};
-use tool_out::{OUT, text};
+use tool_out::{Out, text};
 use tool_words::put_chord;
 
 // The chord types behind the first.
-fn put_types(out: &mut [u8; OUT]) {
+fn put_types(out: &mut Out) {
     let mut k: usize = 1;
     while k < 34 {
         text(out, b", ");

@@ -18,7 +18,7 @@ use tool_edit_words::fields::set_fields;
 use tool_edit_words::{Asked, asked_from, complain_asked};
 use tool_ends::{CANNOT, DONE, begin, end};
 use tool_files::{FILE, contents};
-use tool_out::{OUT, PLAIN, SHOWN, count, end_line, number, text, text_as};
+use tool_out::{Out, PLAIN, SHOWN, count, end_line, number, text, text_as};
 use tool_reason::{cause_of_file, range};
 use tool_rows::row::{ROWS, byte_of, channel, is_second, room, voice};
 use tool_sought::seek;
@@ -50,7 +50,7 @@ fn chunk_of(is_second: bool) -> u8 {
     range::CTAB
 }
 
-fn put_chunk(out: &mut [u8; OUT], is_second: bool) {
+fn put_chunk(out: &mut Out, is_second: bool) {
     if is_second {
         text(out, b" of a Ctb2), allowed is ");
         return;
@@ -59,7 +59,7 @@ fn put_chunk(out: &mut [u8; OUT], is_second: bool) {
 }
 
 // The byte k of the new record that is out of its range.
-fn put_out_of_range(out: &mut [u8; OUT], rows: &[u8; ROWS], k: usize) {
+fn put_out_of_range(out: &mut Out, rows: &[u8; ROWS], k: usize) {
     let second = is_second(rows, NEW);
     put_field(out, second, k);
     text(out, b" is ");
@@ -154,7 +154,7 @@ fn given_length(i: usize, n: usize) -> usize {
 }
 
 // What changed.
-fn put_told(out: &mut [u8; OUT], name: &[u8], rows: &[u8; ROWS]) {
+fn put_told(out: &mut Out, name: &[u8], rows: &[u8; ROWS]) {
     text_as(out, SHOWN, name);
     text(out, b", ch ");
     number(out, channel(rows, OLD));
@@ -171,7 +171,7 @@ fn put_told(out: &mut [u8; OUT], name: &[u8], rows: &[u8; ROWS]) {
     put_changes(out, rows);
 }
 
-fn put_written(out: &mut [u8; OUT], target: &[u8], length: usize) {
+fn put_written(out: &mut Out, target: &[u8], length: usize) {
     text_as(out, SHOWN, target);
     text(out, b": ");
     count(out, length, b"byte", b"bytes");
@@ -181,7 +181,7 @@ fn put_written(out: &mut [u8; OUT], target: &[u8], length: usize) {
 
 // The edit itself, and then the saving: nothing is written unless the edit is accepted.
 fn edit_ready(
-    out: &mut [u8; OUT],
+    out: &mut Out,
     path: &[u8],
     target: &[u8],
     name: &[u8],
@@ -210,7 +210,7 @@ fn edit_ready(
     DONE
 }
 
-fn edit_to(out: &mut [u8; OUT], asked: Asked, path: &[u8], target: &[u8], name: &[u8]) -> u8 {
+fn edit_to(out: &mut Out, asked: Asked, path: &[u8], target: &[u8], name: &[u8]) -> u8 {
     let mut bytes = tool_files::room();
     let mut length: usize = 0;
     if !is_read(path, &mut bytes, &mut length) {
@@ -246,7 +246,7 @@ fn target_of(asked: Asked) -> usize {
 }
 
 // `casm edit FILE PART CHANNEL FIELD=VALUE.. -o OUT`, the arguments from number `first` on.
-pub fn edit(out: &mut [u8; OUT], first: usize) -> u8 {
+pub fn edit(out: &mut Out, first: usize) -> u8 {
     let asked = asked_from(first);
     let wrong = complain_asked(asked);
     if wrong != DONE {

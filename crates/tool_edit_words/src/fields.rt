@@ -7,11 +7,11 @@ use tool_field::{
     ALL_SETS, FIRST_OF_SET, Field, NO_FIELD, SECOND_TABLE, TABLE_FIELD, is_second_only, kind_of,
     parse_field, put_called, put_fields,
 };
-use tool_out::{OUT, text};
+use tool_out::{Out, text};
 use tool_rows::row::{ROWS, is_second};
 use tool_value::expected::put_expected;
 
-fn end_fields(out: &mut [u8; OUT], is_second: bool) -> u8 {
+fn end_fields(out: &mut Out, is_second: bool) -> u8 {
     text(out, b"; the fields are ");
     put_fields(out, is_second);
     end(out);
@@ -101,12 +101,10 @@ fn complain_value(rows: &[u8; ROWS], field: Field, set: u8, value: &[u8]) -> u8 
 
 // Where the first `=` stands, or the end.
 fn equals_at(word: &[u8]) -> usize {
-    let mut i: usize = 0;
-    while i < word.len() {
+    for i in 0..word.len() {
         if word[i] == b'=' {
             return i;
         }
-        i += 1;
     }
     word.len()
 }

@@ -74,12 +74,10 @@ fn without_body(found: Located) -> Seen {
 // The groups of a body that is sound, one behind the other: a name in it may hold the letters of a tag, so the salvage list could cut elsewhere.
 fn list_groups(body: &[u8], list: &mut [usize; LIST], count: usize) {
     let mut at: usize = 0;
-    let mut k: usize = 0;
-    while k < count {
+    for k in 0..count {
         let judged = judge_entry(part(body, at, rest(body.len(), at)));
         put_group(list, k, at, judged.length);
         at = sum(at, judged.length);
-        k += 1;
     }
 }
 

@@ -9,7 +9,7 @@ use layout::refusal::ROOT_FIXED;
 use tool_bytes::sum;
 use tool_chord::put_name;
 use tool_ends::{CANNOT, DONE, NO, begin, complain, end};
-use tool_out::{OUT, PLAIN, SHOWN, end_line, number, text, text_as};
+use tool_out::{Out, PLAIN, SHOWN, end_line, number, text, text_as};
 use tool_placing::put_facts;
 use tool_rows::row::{ROWS, channel, room, voice};
 use tool_rows::{blank_table, read_rows};
@@ -26,7 +26,7 @@ fn record_at(body: &[u8], group: usize, k: usize) -> Record {
     table[0]
 }
 
-fn put_numbered(out: &mut [u8; OUT], note: u8) {
+fn put_numbered(out: &mut Out, note: u8) {
     put_note(out, note);
     text(out, b" (");
     number(out, note as usize);
@@ -34,7 +34,7 @@ fn put_numbered(out: &mut [u8; OUT], note: u8) {
 }
 
 // The part, the channel of row k and the chord.
-fn put_where(out: &mut [u8; OUT], name: &[u8], rows: &[u8; ROWS], k: usize, root: u8, kind: u8) {
+fn put_where(out: &mut Out, name: &[u8], rows: &[u8; ROWS], k: usize, root: u8, kind: u8) {
     text_as(out, SHOWN, name);
     text(out, b", ch ");
     number(out, channel(rows, k));
@@ -46,7 +46,7 @@ fn put_where(out: &mut [u8; OUT], name: &[u8], rows: &[u8; ROWS], k: usize, root
 }
 
 // Where a note is placed, or why it is not.
-fn put_placed(out: &mut [u8; OUT], note: u8, placed: Placed) {
+fn put_placed(out: &mut Out, note: u8, placed: Placed) {
     put_numbered(out, note);
     if placed.number == 0 {
         text(out, b" is placed at ");
@@ -65,7 +65,7 @@ fn put_placed(out: &mut [u8; OUT], note: u8, placed: Placed) {
 
 // That the channel of row k does not play under the chord, where it does not.
 fn put_silent(
-    out: &mut [u8; OUT],
+    out: &mut Out,
     body: &[u8],
     name: &[u8],
     rows: &[u8; ROWS],
@@ -86,14 +86,12 @@ fn put_silent(
 }
 
 // The channels of a group, on one line.
-fn put_channels(out: &mut [u8; OUT], rows: &[u8; ROWS], many: usize) {
-    let mut k: usize = 0;
-    while k < many {
+fn put_channels(out: &mut Out, rows: &[u8; ROWS], many: usize) {
+    for k in 0..many {
         if 0 < k {
             text(out, b", ");
         }
         number(out, channel(rows, k));
-        k += 1;
     }
 }
 
@@ -123,7 +121,7 @@ fn status_of(placed: Placed) -> u8 {
 
 // Tells where a note of a source channel of a part is placed under a chord. What the run comes to: the note is placed, or it is not, or there is no such channel.
 pub fn note(
-    out: &mut [u8; OUT],
+    out: &mut Out,
     body: &[u8],
     name: &[u8],
     given: u8,

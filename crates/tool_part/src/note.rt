@@ -6,11 +6,11 @@ use tool_chord::wrong::{complain_channel, complain_chord, complain_note};
 use tool_chord::{FINE, parse_chord};
 use tool_ends::{CANNOT, DONE, complain};
 use tool_files::FILE;
-use tool_out::OUT;
+use tool_out::Out;
 
 // Places a note that is written, of a channel under a chord that are written.
 fn place(
-    out: &mut [u8; OUT],
+    out: &mut Out,
     body: &[u8],
     name: &[u8],
     channel: &[u8],
@@ -41,7 +41,7 @@ fn place(
 }
 
 // The three arguments behind the part.
-fn answer_part(out: &mut [u8; OUT], body: &[u8], name: &[u8], i: usize) -> u8 {
+fn answer_part(out: &mut Out, body: &[u8], name: &[u8], i: usize) -> u8 {
     let mut channel = io::buffer();
     let mut chord = io::buffer();
     let mut note = io::buffer();
@@ -52,7 +52,7 @@ fn answer_part(out: &mut [u8; OUT], body: &[u8], name: &[u8], i: usize) -> u8 {
     place(out, body, name, &channel[..n], &chord[..m], &note[..k])
 }
 
-fn answer_named(out: &mut [u8; OUT], path: &[u8], body: &[u8], sound: Sound, i: usize) -> u8 {
+fn answer_named(out: &mut Out, path: &[u8], body: &[u8], sound: Sound, i: usize) -> u8 {
     let mut name = io::buffer();
     let n = os::arg(i, &mut name);
     if !is_part(b"note", path, body, sound, &name[..n]) {
@@ -61,7 +61,7 @@ fn answer_named(out: &mut [u8; OUT], path: &[u8], body: &[u8], sound: Sound, i: 
     answer_part(out, body, &name[..n], next_name(i))
 }
 
-fn answer(out: &mut [u8; OUT], bytes: &mut [u8; FILE], path: &[u8], asked: Asked) -> u8 {
+fn answer(out: &mut Out, bytes: &mut [u8; FILE], path: &[u8], asked: Asked) -> u8 {
     let sound = read_sound(b"note", path, bytes);
     if sound.status != DONE {
         return CANNOT;
@@ -79,7 +79,7 @@ fn answer(out: &mut [u8; OUT], bytes: &mut [u8; FILE], path: &[u8], asked: Asked
     answer_named(out, path, body, sound, next_name(asked.first))
 }
 
-pub fn note(out: &mut [u8; OUT], from: usize) -> u8 {
+pub fn note(out: &mut Out, from: usize) -> u8 {
     let asked = asked_from(from);
     if asked.is_json {
         return complain(b"note", b"it takes no option");

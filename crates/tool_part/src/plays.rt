@@ -5,11 +5,11 @@ use tool_chord::wrong::complain_chord;
 use tool_chord::{FINE, parse_chord};
 use tool_ends::{CANNOT, DONE, complain};
 use tool_files::FILE;
-use tool_out::OUT;
+use tool_out::Out;
 
 // The channels that play under a chord that is written.
 fn put_chord(
-    out: &mut [u8; OUT],
+    out: &mut Out,
     path: &[u8],
     body: &[u8],
     name: &[u8],
@@ -29,7 +29,7 @@ fn put_chord(
 }
 
 // How many play under each chord.
-fn put_matrix(out: &mut [u8; OUT], path: &[u8], body: &[u8], name: &[u8], is_json: bool) -> u8 {
+fn put_matrix(out: &mut Out, path: &[u8], body: &[u8], name: &[u8], is_json: bool) -> u8 {
     if is_json {
         tool_plays_json::matrix::matrix_json(out, path, body, name);
     } else {
@@ -40,7 +40,7 @@ fn put_matrix(out: &mut [u8; OUT], path: &[u8], body: &[u8], name: &[u8], is_jso
 
 // Answers of a part that is named.
 fn answer_part(
-    out: &mut [u8; OUT],
+    out: &mut Out,
     path: &[u8],
     body: &[u8],
     sound: Sound,
@@ -60,7 +60,7 @@ fn answer_part(
     put_chord(out, path, body, &name[..n], &written[..m], asked.is_json)
 }
 
-fn answer(out: &mut [u8; OUT], bytes: &mut [u8; FILE], path: &[u8], asked: Asked) -> u8 {
+fn answer(out: &mut Out, bytes: &mut [u8; FILE], path: &[u8], asked: Asked) -> u8 {
     let sound = read_sound(b"plays", path, bytes);
     if sound.status != DONE {
         return CANNOT;
@@ -72,7 +72,7 @@ fn answer(out: &mut [u8; OUT], bytes: &mut [u8; FILE], path: &[u8], asked: Asked
     answer_part(out, path, body, sound, asked, next_name(asked.first))
 }
 
-pub fn plays(out: &mut [u8; OUT], from: usize) -> u8 {
+pub fn plays(out: &mut Out, from: usize) -> u8 {
     let asked = asked_from(from);
     if asked.unknown != 0 {
         return complain_option(b"plays", asked.unknown, b"--json");

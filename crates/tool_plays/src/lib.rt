@@ -5,7 +5,7 @@ use casm::read::find_part;
 use tool_bytes::rest;
 use tool_chord::put_name;
 pub use tool_matrix::plays_matrix;
-use tool_out::{MEMORY, OUT, SHOWN, clear, count, end_line, number, text, text_as, writer};
+use tool_out::{MEMORY, Out, SHOWN, clear, count, end_line, number, text, text_as, writer};
 use tool_rows::read_rows;
 use tool_rows::row::{ROWS, byte_of, channel, room, voice};
 use tool_table::row::put_row;
@@ -24,7 +24,7 @@ struct Asked {
 const RIGHTS: [bool; COLUMNS] = [true, false, false, false, false, false, false, false];
 
 // The cells of the head.
-fn fill_head(row: &mut [u8; OUT]) {
+fn fill_head(row: &mut Out) {
     clear(row);
     text(row, b"ch");
     next_cell(row);
@@ -34,7 +34,7 @@ fn fill_head(row: &mut [u8; OUT]) {
 }
 
 // The cells of the channel of row k: where it does not play, why.
-fn fill_row(row: &mut [u8; OUT], rows: &[u8; ROWS], k: usize, asked: Asked) {
+fn fill_row(row: &mut Out, rows: &[u8; ROWS], k: usize, asked: Asked) {
     clear(row);
     number(row, channel(rows, k));
     next_cell(row);
@@ -62,13 +62,11 @@ fn measure_rows(
     let mut row = writer(MEMORY);
     fill_head(&mut row);
     measure(widths, &row);
-    let mut k: usize = 0;
-    while k < many {
+    for k in 0..many {
         if is_told(rows, k, marks, asked) {
             fill_row(&mut row, rows, k, asked);
             measure(widths, &row);
         }
-        k += 1;
     }
     limit(widths, 0, 2);
     limit(widths, 1, 16);
@@ -77,7 +75,7 @@ fn measure_rows(
 }
 
 fn put_rows(
-    out: &mut [u8; OUT],
+    out: &mut Out,
     widths: &[usize; COLUMNS],
     rows: &[u8; ROWS],
     many: usize,
@@ -85,18 +83,16 @@ fn put_rows(
     asked: Asked,
 ) {
     let mut row = writer(MEMORY);
-    let mut k: usize = 0;
-    while k < many {
+    for k in 0..many {
         if is_told(rows, k, marks, asked) {
             fill_row(&mut row, rows, k, asked);
             put_row(out, &row, widths, 2, RIGHTS);
         }
-        k += 1;
     }
 }
 
 // What stands above the rows.
-fn put_head(out: &mut [u8; OUT], widths: &[usize; COLUMNS], is_playing: bool) {
+fn put_head(out: &mut Out, widths: &[usize; COLUMNS], is_playing: bool) {
     if is_playing {
         let mut row = writer(MEMORY);
         fill_head(&mut row);
@@ -108,7 +104,7 @@ fn put_head(out: &mut [u8; OUT], widths: &[usize; COLUMNS], is_playing: bool) {
 
 // Those that play, or those that do not.
 fn put_those(
-    out: &mut [u8; OUT],
+    out: &mut Out,
     rows: &[u8; ROWS],
     many: usize,
     marks: &[u8; MARKS],
@@ -129,7 +125,7 @@ fn asked_of(root: u8, kind: u8, is_playing: bool) -> Asked {
 }
 
 // Who plays in a part under a chord, and of the others why not. The part is one of the body's.
-pub fn plays_chord(out: &mut [u8; OUT], body: &[u8], name: &[u8], root: u8, kind: u8) {
+pub fn plays_chord(out: &mut Out, body: &[u8], name: &[u8], root: u8, kind: u8) {
     let named = find_part(body, name);
     let mut rows = room();
     let many = read_rows(&mut rows, body, named.group);

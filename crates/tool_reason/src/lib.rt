@@ -161,15 +161,13 @@ pub fn cause_of_entry(body: &[u8], list: &[usize; LIST], k: usize) -> Cause {
 // Where the group begins in which a place of a body is refused: the groups before it are sound.
 fn group_start(body: &[u8], place: usize) -> usize {
     let mut at: usize = 0;
-    let mut left = body.len();
-    while 0 < left {
+    for _ in 0..body.len() {
         let judged = judge_entry(part(body, at, rest(body.len(), at)));
         let next = sum(at, judged.length);
         if judged.number != 0 || place < next {
             return at;
         }
         at = next;
-        left -= 1;
     }
     at
 }
@@ -188,12 +186,10 @@ fn strict_cause(body: &[u8], number: u8, place: usize) -> Cause {
 
 // The entry that has a place, or how many there are.
 fn entry_with(list: &[usize; LIST], count: usize, place: usize) -> usize {
-    let mut k: usize = 0;
-    while k < count {
+    for k in 0..count {
         if place < sum(place_of(list, k), length_of(list, k)) {
             return k;
         }
-        k += 1;
     }
     count
 }

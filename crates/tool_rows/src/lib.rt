@@ -21,10 +21,8 @@ pub fn blank_table() -> [Record; 32] {
 
 // The bytes of a record in row k.
 fn store_bytes(rows: &mut [u8; ROWS], k: usize, b: [u8; SECOND_RECORD]) {
-    let mut i: usize = 0;
-    while i < SECOND_RECORD {
+    for i in 0..SECOND_RECORD {
         set_byte(rows, k, i, b[i]);
-        i += 1;
     }
 }
 
@@ -56,12 +54,10 @@ pub fn store(rows: &mut [u8; ROWS], k: usize, r: Record) {
 }
 
 fn store_all(rows: &mut [u8; ROWS], table: [Record; 32], count: usize) {
-    let mut k: usize = 0;
-    while k < 32 {
+    for k in 0..32 {
         if k < count {
             store(rows, k, table[k]);
         }
-        k += 1;
     }
 }
 

@@ -16,14 +16,12 @@ pub fn append(name: &mut [u8; PATH_MAX], at: usize, text: &[u8]) -> usize
 {
     let s: &mut [u8] = name;
     let mut after = at;
-    let mut i: usize = 0;
-    while i < text.len() {
+    for i in 0..text.len() {
         if s.len() <= after {
             return PATH_MAX + 1;
         }
         s[after] = text[i];
         after += 1;
-        i += 1;
     }
     after
 }

@@ -12,13 +12,11 @@ fn ended(path: &[u8]) -> [u8; PATH_MAX]
     ensures { Ended result }
 {
     let mut bytes = [0; PATH_MAX];
-    let mut i = 0;
-    while i < path.len() {
+    for i in 0..path.len() {
         if i >= LAST {
             break;
         }
         bytes[i] = path[i];
-        i += 1;
     }
     bytes[LAST] = 0;
     bytes

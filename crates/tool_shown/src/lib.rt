@@ -5,7 +5,7 @@ use tool_ends::{CANNOT, DONE, NO, complain};
 use tool_files::{FILE, contents};
 use tool_look::list::LIST;
 use tool_look::{SOUND, Seen, look};
-use tool_out::OUT;
+use tool_out::Out;
 
 // What is shown of a file.
 pub const REPORT: u8 = 0;
@@ -18,7 +18,7 @@ pub const PAGE: u8 = 3;
 
 // Prints a file that was looked at.
 fn put_seen(
-    out: &mut [u8; OUT],
+    out: &mut Out,
     how: u8,
     name: &[u8],
     file: &[u8],
@@ -37,7 +37,7 @@ fn put_seen(
 }
 
 fn show_bytes(
-    out: &mut [u8; OUT],
+    out: &mut Out,
     how: u8,
     name: &[u8],
     file: &[u8],
@@ -55,7 +55,7 @@ fn show_bytes(
 }
 
 fn show_path(
-    out: &mut [u8; OUT],
+    out: &mut Out,
     how: u8,
     path: &[u8],
     bytes: &mut [u8; FILE],
@@ -69,7 +69,7 @@ fn show_path(
 }
 
 // Shows the file that argument i names.
-pub fn show(out: &mut [u8; OUT], how: u8, i: usize) -> u8 {
+pub fn show(out: &mut Out, how: u8, i: usize) -> u8 {
     let mut bytes = tool_files::room();
     let mut list = tool_look::list::room();
     let mut path = io::buffer();
@@ -78,7 +78,7 @@ pub fn show(out: &mut [u8; OUT], how: u8, i: usize) -> u8 {
 }
 
 // `casm report FILE`, and `casm report --json FILE`.
-pub fn report(out: &mut [u8; OUT], from: usize) -> u8 {
+pub fn report(out: &mut Out, from: usize) -> u8 {
     let asked = asked_from(from);
     if asked.unknown != 0 {
         return complain_option(b"report", asked.unknown, b"--json");
@@ -96,7 +96,7 @@ pub fn report(out: &mut [u8; OUT], from: usize) -> u8 {
 }
 
 // `casm list FILE`.
-pub fn list(out: &mut [u8; OUT], from: usize) -> u8 {
+pub fn list(out: &mut Out, from: usize) -> u8 {
     let asked = asked_from(from);
     if asked.unknown != 0 || asked.is_json {
         return complain(b"list", b"it takes no option; expected casm list FILE");
@@ -108,7 +108,7 @@ pub fn list(out: &mut [u8; OUT], from: usize) -> u8 {
 }
 
 // `casm page FILE`.
-pub fn page(out: &mut [u8; OUT], from: usize) -> u8 {
+pub fn page(out: &mut Out, from: usize) -> u8 {
     let asked = asked_from(from);
     if asked.unknown != 0 || asked.is_json {
         return complain(b"page", b"it takes no option; expected casm page FILE");
@@ -123,7 +123,7 @@ pub fn page(out: &mut [u8; OUT], from: usize) -> u8 {
 }
 
 // `casm check FILE..`.
-pub fn check(out: &mut [u8; OUT], from: usize) -> u8 {
+pub fn check(out: &mut Out, from: usize) -> u8 {
     let asked = asked_from(from);
     if asked.unknown != 0 {
         return complain_option(b"check", asked.unknown, b"--json");

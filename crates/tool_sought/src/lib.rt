@@ -10,7 +10,7 @@ use tool_chord::note::parse_channel;
 use tool_chord::wrong::complain_channel;
 use tool_ends::{begin, end};
 use tool_look::{SOUND, body_of, list, look};
-use tool_out::{OUT, SHOWN, number, text, text_as};
+use tool_out::{Out, SHOWN, number, text, text_as};
 
 // Whether it was found; then the number of the group, the channel's byte, the place of its record in the file, and whether it is of the second edition.
 #[derive(Drop)]
@@ -48,10 +48,9 @@ fn has_channel(body: &[u8], group: usize, channel: u8) -> bool {
 }
 
 // The channels that a group has.
-fn put_channels(out: &mut [u8; OUT], body: &[u8], group: usize) {
+fn put_channels(out: &mut Out, body: &[u8], group: usize) {
     let mut before: usize = 0;
-    let mut k: usize = 0;
-    while k < 16 {
+    for k in 0..16 {
         if has_channel(body, group, (k % 256) as u8) {
             if 0 < before {
                 text(out, b", ");
@@ -59,14 +58,13 @@ fn put_channels(out: &mut [u8; OUT], body: &[u8], group: usize) {
             number(out, sum(k, 1));
             before = sum(before, 1);
         }
-        k += 1;
     }
     if before == 0 {
         text(out, b"none");
     }
 }
 
-fn put_there(out: &mut [u8; OUT], name: &[u8], body: &[u8], group: usize) {
+fn put_there(out: &mut Out, name: &[u8], body: &[u8], group: usize) {
     text(out, b"; the channels of ");
     text_as(out, SHOWN, name);
     text(out, b" are ");

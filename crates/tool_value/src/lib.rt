@@ -6,7 +6,7 @@ pub mod mask;
 use tool_bytes::{least, rest, sum};
 use tool_chord::letter_of;
 use tool_chord::note::parse_note;
-use tool_out::{MEMORY, OUT, held, text, word, writer};
+use tool_out::{MEMORY, Out, held, text, word, writer};
 use tool_words::{names, put_chord, put_root, put_table};
 
 // The kinds of values. A rule of the first edition is none of those with tables of their own; a table is a Ctab's, a set's, or a set's under the rule Guitar.
@@ -67,7 +67,7 @@ pub fn byte_named(kind: u8, k: usize) -> u8 {
     (k % 256) as u8
 }
 
-fn put_switch(out: &mut [u8; OUT], value: u8) {
+fn put_switch(out: &mut Out, value: u8) {
     if value == 0 {
         text(out, b"no");
         return;
@@ -75,7 +75,7 @@ fn put_switch(out: &mut [u8; OUT], value: u8) {
     text(out, b"yes");
 }
 
-fn put_later(out: &mut [u8; OUT], kind: u8, value: u8) {
+fn put_later(out: &mut Out, kind: u8, value: u8) {
     if kind == FIRST_TABLE {
         let name = names::table_21(value);
         word(out, &name);
@@ -98,7 +98,7 @@ fn put_later(out: &mut [u8; OUT], kind: u8, value: u8) {
 }
 
 // The name of a byte of a kind.
-pub fn put_named(out: &mut [u8; OUT], kind: u8, value: u8) {
+pub fn put_named(out: &mut Out, kind: u8, value: u8) {
     if kind == ROOT {
         put_root(out, value);
         return;
@@ -128,12 +128,10 @@ fn is_named(kind: u8, k: usize, given: &[u8]) -> bool {
 // The byte that a name of a kind stands for.
 fn named(kind: u8, given: &[u8]) -> usize {
     let count = count_of(kind);
-    let mut k: usize = 0;
-    while k < count {
+    for k in 0..count {
         if is_named(kind, k, given) {
             return byte_named(kind, k) as usize;
         }
-        k += 1;
     }
     UNKNOWN
 }
@@ -157,14 +155,12 @@ fn number_of(given: &[u8]) -> usize {
         return UNKNOWN;
     }
     let mut n: usize = 0;
-    let mut i: usize = 0;
-    while i < given.len() {
+    for i in 0..given.len() {
         let digit = digit_of(given[i]);
         if 9 < digit {
             return UNKNOWN;
         }
         n = with_digit(n, digit);
-        i += 1;
     }
     least(n, UNKNOWN)
 }

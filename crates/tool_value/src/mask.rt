@@ -63,8 +63,7 @@ fn bare<'a>(name: &'a [u8]) -> &'a [u8] {
 fn mask_named(kind: u8, list: &[u8]) -> usize {
     let mut mask: usize = 0;
     let mut from: usize = 0;
-    let mut left = sum(list.len(), 1);
-    while 0 < left {
+    for _ in 0..sum(list.len(), 1) {
         let ended = comma_from(list, from);
         let k = value_of(kind, bare(part(list, from, rest(ended, from))));
         if bits_of(kind) <= k {
@@ -75,7 +74,6 @@ fn mask_named(kind: u8, list: &[u8]) -> usize {
             return mask;
         }
         from = sum(ended, 1);
-        left -= 1;
     }
     mask
 }

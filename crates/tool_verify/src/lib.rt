@@ -10,18 +10,18 @@ use tool_asked::is_read;
 use tool_bytes::{byte_at, rest, sum};
 use tool_ends::{CANNOT, DONE, NO, begin, complain, end, quoted};
 use tool_files::{FILE, contents};
-use tool_out::{OUT, SHOWN, count, end_line, number, place, text, text_as, upper_pair};
+use tool_out::{Out, SHOWN, count, end_line, number, place, text, text_as, upper_pair};
 use tool_sought::{complain_refused, seek};
 
 // The channel and the part.
-fn put_channel(out: &mut [u8; OUT], channel: u8, name: &[u8]) {
+fn put_channel(out: &mut Out, channel: u8, name: &[u8]) {
     text(out, b"ch ");
     number(out, sum(channel as usize, 1));
     text(out, b" of ");
     text_as(out, SHOWN, name);
 }
 
-fn put_yes(out: &mut [u8; OUT], is_same: bool, channel: u8, name: &[u8]) -> u8 {
+fn put_yes(out: &mut Out, is_same: bool, channel: u8, name: &[u8]) -> u8 {
     if is_same {
         text(out, b"yes: the files are the same\n");
         return DONE;
@@ -33,7 +33,7 @@ fn put_yes(out: &mut [u8; OUT], is_same: bool, channel: u8, name: &[u8]) -> u8 {
 }
 
 // That a file ends at a place, and how much the other one has behind it.
-fn put_ended(out: &mut [u8; OUT], path: &[u8], longer: &[u8], at: usize) {
+fn put_ended(out: &mut Out, path: &[u8], longer: &[u8], at: usize) {
     text(out, b"  ");
     text_as(out, SHOWN, path);
     text(out, b" ends at ");
@@ -44,13 +44,13 @@ fn put_ended(out: &mut [u8; OUT], path: &[u8], longer: &[u8], at: usize) {
     end_line(out);
 }
 
-fn put_byte(out: &mut [u8; OUT], value: u8) {
+fn put_byte(out: &mut Out, value: u8) {
     upper_pair(out, value);
     text(out, b"H");
 }
 
 // The first byte that differs, and what it is of.
-fn put_first(out: &mut [u8; OUT], before: &[u8], after: &[u8], at: usize) {
+fn put_first(out: &mut Out, before: &[u8], after: &[u8], at: usize) {
     text(out, b"  first at ");
     place(out, at);
     text(out, b": ");
@@ -63,7 +63,7 @@ fn put_first(out: &mut [u8; OUT], before: &[u8], after: &[u8], at: usize) {
     end_line(out);
 }
 
-fn put_no(out: &mut [u8; OUT], path: &[u8], before: &[u8], other: &[u8], after: &[u8], at: usize) {
+fn put_no(out: &mut Out, path: &[u8], before: &[u8], other: &[u8], after: &[u8], at: usize) {
     if before.len() <= at {
         put_ended(out, path, after, at);
         return;
@@ -102,7 +102,7 @@ fn complain_checked(
 
 // Tells what the call answers.
 fn verify_files(
-    out: &mut [u8; OUT],
+    out: &mut Out,
     path: &[u8],
     before: &[u8],
     other: &[u8],
@@ -130,7 +130,7 @@ fn verify_files(
 }
 
 fn verify_read(
-    out: &mut [u8; OUT],
+    out: &mut Out,
     path: &[u8],
     sent: &[u8; FILE],
     length: usize,
@@ -154,7 +154,7 @@ fn verify_read(
     )
 }
 
-fn verify_paths(out: &mut [u8; OUT], path: &[u8], other: &[u8], name: &[u8], given: &[u8]) -> u8 {
+fn verify_paths(out: &mut Out, path: &[u8], other: &[u8], name: &[u8], given: &[u8]) -> u8 {
     let mut bytes = tool_files::room();
     let mut length: usize = 0;
     if !is_read(path, &mut bytes, &mut length) {
@@ -178,7 +178,7 @@ fn complain_more(i: usize) -> u8 {
 }
 
 // `casm verify BEFORE AFTER PART CHANNEL`, the arguments from number `first` on.
-pub fn verify(out: &mut [u8; OUT], first: usize) -> u8 {
+pub fn verify(out: &mut Out, first: usize) -> u8 {
     let given = rest(os::arg_count(), first);
     if given < 2 {
         return complain(
