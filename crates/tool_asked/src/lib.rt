@@ -78,10 +78,8 @@ pub fn asked_from(from: usize) -> Asked {
         first: 0,
         unknown: 0,
     };
-    let mut i = from;
-    while i < end {
+    for i in from..end {
         asked = with_argument(asked, i);
-        i += 1;
     }
     asked
 }
@@ -94,12 +92,10 @@ pub fn is_name(i: usize) -> bool {
 // The first argument behind number i that is no option, or how many there are.
 pub fn next_name(i: usize) -> usize {
     let end = os::arg_count();
-    let mut k = sum(i, 1);
-    while k < end {
+    for k in sum(i, 1)..end {
         if is_name(k) {
             return k;
         }
-        k += 1;
     }
     end
 }

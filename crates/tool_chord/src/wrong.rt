@@ -6,11 +6,9 @@ use tool_words::put_chord;
 
 // The chord types behind the first.
 fn put_types(out: &mut Out) {
-    let mut k: usize = 1;
-    while k < 34 {
+    for k in 1..34 {
         text(out, b", ");
         put_chord(out, (k % 256) as u8);
-        k += 1;
     }
 }
 

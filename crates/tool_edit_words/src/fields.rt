@@ -143,13 +143,11 @@ fn set_argument(rows: &mut [u8; ROWS], asked: Asked, i: usize, is_rule: bool) ->
 
 fn set_all(rows: &mut [u8; ROWS], asked: Asked, is_rule: bool) -> u8 {
     let end = os::arg_count();
-    let mut i = asked.file;
-    while i < end {
+    for i in asked.file..end {
         let status = set_argument(rows, asked, i, is_rule);
         if status != DONE {
             return status;
         }
-        i += 1;
     }
     DONE
 }

@@ -130,10 +130,8 @@ fn with_argument(asked: Asked, i: usize) -> Asked {
 pub fn asked_from(from: usize) -> Asked {
     let end = os::arg_count();
     let mut asked = nothing();
-    let mut i = from;
-    while i < end {
+    for i in from..end {
         asked = with_argument(asked, i);
-        i += 1;
     }
     asked
 }

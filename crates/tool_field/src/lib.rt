@@ -241,14 +241,12 @@ pub fn put_label(out: &mut Out, field: u8, set: u8) {
 
 // The names from one field up to another.
 fn put_names(out: &mut Out, from: usize, end: usize) {
-    let mut k = from;
-    while k < end {
+    for k in from..end {
         if from < k {
             text(out, b", ");
         }
         let name = name_of((k % 256) as u8);
         word(out, &name);
-        k += 1;
     }
 }
 

@@ -71,11 +71,9 @@ fn measure_sets(
 // Bytes 40-46, which are unexplained, as they stand.
 fn put_tail(out: &mut Out, rows: &[u8; ROWS], k: usize) {
     text(out, b", bytes 40-46");
-    let mut i: usize = 40;
-    while i < 47 {
+    for i in 40..47 {
         byte(out, b' ');
         pair(out, byte_of(rows, k, i));
-        i += 1;
     }
     end_line(out);
 }

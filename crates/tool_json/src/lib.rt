@@ -11,7 +11,7 @@ use tool_bytes::{rest, sum};
 use tool_look::list::LIST;
 use tool_look::totals::{Totals, editions, totals_of};
 use tool_look::{SOUND, Seen, body_of, body_place, file_place, verdict_words};
-use tool_out::{JSON, MEMORY, Out, byte, number, text, word, writer};
+use tool_out::{JSON, Out, byte, fail_with, memory_for, number, text, word};
 use tool_parts::{next_section, put_json, put_tag, section_length, sections_end};
 use tool_reason::cause_of;
 use tool_report::head::dump_of;
@@ -126,7 +126,7 @@ fn put_head(out: &mut Out, name: &[u8], file: &[u8], seen: Seen, totals: Totals)
 
 // The object of a file that was looked at.
 pub fn report(out: &mut Out, name: &[u8], file: &[u8], list: &[usize; LIST], seen: Seen) {
-    let mut words = writer(MEMORY);
+    let mut words = memory_for(out);
     let body = body_of(file, seen.tag, seen.length);
     let totals = totals_of(body, list, seen.count);
     put_head(out, name, file, seen, totals);
@@ -138,4 +138,5 @@ pub fn report(out: &mut Out, name: &[u8], file: &[u8], list: &[usize; LIST], see
     text(out, b",\"entries\":[");
     put_entries(out, &mut words, file, body, list, seen);
     text(out, b"]}\n");
+    fail_with(out, &words);
 }

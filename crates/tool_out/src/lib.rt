@@ -4,7 +4,7 @@
 
 ghost use Rattle.std.specs.Prelude.{◌<◌, ◌≤◌, length};
 
-use std::alloc::Global;
+use std::alloc::{AllocError, Global};
 
 // How each byte of a text is put: as it is, or so that a terminal, a JSON string or an HTML text shows it.
 pub const PLAIN: u8 = 0;
@@ -28,6 +28,7 @@ pub const MEMORY: u8 = 2;
 pub struct Out {
     to: u8,
     has_failed: bool,
+    memory: Result<(), AllocError>,
     waiting: Vec<u8>,
 }
 
@@ -35,6 +36,7 @@ pub fn writer(alloc: Global, to: u8) -> Out {
     Out {
         to,
         has_failed: false,
+        memory: Ok(()),
         waiting: Vec::new(alloc),
     }
 }
@@ -47,19 +49,25 @@ pub fn memory_for(out: &Out) -> Out {
 
 // Whether a write failed, or memory ran out. From then on nothing is written.
 pub fn is_failed(out: &Out) -> bool {
-    out.has_failed
+    out.has_failed || out.memory.is_err()
 }
 
 // Where a writer failed whose words go into `out`, `out` has failed too.
 pub fn fail_with(out: &mut Out, words: &Out) {
-    if words.has_failed {
-        out.has_failed = true;
+    if words.memory.is_err() {
+        out.memory = words.memory;
     }
 }
 
 // What waits, as it stands.
 pub fn held<'a>(out: &'a Out) -> &'a [u8] {
     out.waiting.as_slice()
+}
+
+// The same, where memory sufficed for all that was put.
+pub fn whole<'a>(out: &'a Out) -> Result<&'a [u8], AllocError> {
+    out.memory?;
+    Ok(held(out))
 }
 
 // Leaves off what waits.
@@ -87,7 +95,7 @@ fn is_put<R: Print + Eprint>(rt: &R, to: u8, bytes: &[u8]) -> bool {
 
 // Writes what waits.
 pub fn flush<R: Print + Eprint>(rt: &R, out: &mut Out) {
-    if !out.has_failed {
+    if !is_failed(out) {
         let is_written = is_put(rt, out.to, held(out));
         out.has_failed = !is_written;
     }
@@ -95,15 +103,15 @@ pub fn flush<R: Print + Eprint>(rt: &R, out: &mut Out) {
 }
 
 pub fn byte(out: &mut Out, b: u8) {
-    if out.waiting.push(b).is_err() {
-        out.has_failed = true;
+    if let Err(e) = out.waiting.push(b) {
+        out.memory = Err(AllocError::from(e));
     }
 }
 
 // A text as it is.
 pub fn text(out: &mut Out, text: &[u8]) {
-    if out.waiting.extend_from_slice(text).is_err() {
-        out.has_failed = true;
+    if let Err(e) = out.waiting.extend_from_slice(text) {
+        out.memory = Err(e);
     }
 }
 

@@ -30,13 +30,11 @@ pub fn put_middle_notes(out: &mut Out, rows: &[u8; ROWS], k: usize) {
 // Its bytes that are not explained.
 pub fn put_unexplained(out: &mut Out, rows: &[u8; ROWS], k: usize) {
     begin_fact(out, b"bytes 40-46");
-    let mut i: usize = 40;
-    while i < 47 {
+    for i in 40..47 {
         if 40 < i {
             byte(out, b' ');
         }
         pair(out, byte_of(rows, k, i));
-        i += 1;
     }
     end_fact(out);
 }

@@ -11,13 +11,11 @@ use tool_rows::row::{HAS_SECOND, ROWS, SECOND, byte_of};
 use tool_words::put_table;
 
 fn put_settings(out: &mut Out, rows: &[u8; ROWS], k: usize) {
-    let mut n: usize = RULE;
-    while n < SETTINGS {
+    for n in RULE..SETTINGS {
         let name = head(n);
         begin_fact(out, &name);
         put_setting(out, rows, k, 0, n);
         end_fact(out);
-        n += 1;
     }
 }
 

@@ -26,14 +26,12 @@ fn above_float(odd: usize) -> usize {
     }
     let mut high = odd * 2048 / 2000;
     let mut above = odd % 2000;
-    let mut left: usize = 63;
-    while 0 < left {
+    for _ in 0..63 {
         if 1 < high {
             high = high / 2;
         } else {
             above = sum(above, above) % 2000;
         }
-        left -= 1;
     }
     above
 }

@@ -33,10 +33,8 @@ fn put_set(out: &mut Out, rows: &[u8; ROWS], k: usize, which: usize, shown: usiz
     text(out, b"<tr><th scope=\"row\">");
     put_set_name(out, which, shown);
     text(out, b"</th>");
-    let mut n: usize = RULE;
-    while n < SETTINGS {
+    for n in RULE..SETTINGS {
         put_cell(out, rows, k, which, n);
-        n += 1;
     }
     text(out, b"</tr>");
 }

@@ -5,7 +5,7 @@ pub mod parts;
 
 use tool_bytes::{byte_at, part, sum};
 use tool_look::list::{LIST, entry, is_loose, is_sound};
-use tool_out::{HTML, MEMORY, Out, byte, held, place, text, text_as, word, word_as, writer};
+use tool_out::{HTML, Out, byte, fail_with, held, memory_for, place, text, text_as, word, word_as};
 use tool_parts::put_parts;
 use tool_reason::detail::{is_more, put_detail};
 use tool_reason::{Cause, cause_of_entry};
@@ -77,11 +77,12 @@ pub fn put_more(out: &mut Out, s: &[u8], cause: Cause) {
     if !is_more(cause) {
         return;
     }
-    let mut memory = writer(MEMORY);
+    let mut memory = memory_for(out);
     put_detail(&mut memory, s, cause);
     text(out, b"<p class=\"detail\">");
     put_capital(out, held(&memory));
     text(out, b"</p>");
+    fail_with(out, &memory);
 }
 
 // The parts of a group, or why an entry is none.

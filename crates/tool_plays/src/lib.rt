@@ -5,7 +5,7 @@ use casm::read::find_part;
 use tool_bytes::rest;
 use tool_chord::put_name;
 pub use tool_matrix::plays_matrix;
-use tool_out::{MEMORY, Out, SHOWN, clear, count, end_line, number, text, text_as, writer};
+use tool_out::{Out, SHOWN, clear, count, end_line, fail_with, memory_for, number, text, text_as};
 use tool_rows::read_rows;
 use tool_rows::row::{ROWS, byte_of, channel, room, voice};
 use tool_table::row::put_row;
@@ -53,13 +53,14 @@ fn is_told(rows: &[u8; ROWS], k: usize, marks: &[u8; MARKS], asked: Asked) -> bo
 }
 
 fn measure_rows(
+    out: &mut Out,
     widths: &mut [usize; COLUMNS],
     rows: &[u8; ROWS],
     many: usize,
     marks: &[u8; MARKS],
     asked: Asked,
 ) {
-    let mut row = writer(MEMORY);
+    let mut row = memory_for(out);
     fill_head(&mut row);
     measure(widths, &row);
     for k in 0..many {
@@ -68,6 +69,7 @@ fn measure_rows(
             measure(widths, &row);
         }
     }
+    fail_with(out, &row);
     limit(widths, 0, 2);
     limit(widths, 1, 16);
     limit(widths, 2, 13);
@@ -82,21 +84,23 @@ fn put_rows(
     marks: &[u8; MARKS],
     asked: Asked,
 ) {
-    let mut row = writer(MEMORY);
+    let mut row = memory_for(out);
     for k in 0..many {
         if is_told(rows, k, marks, asked) {
             fill_row(&mut row, rows, k, asked);
             put_row(out, &row, widths, 2, RIGHTS);
         }
     }
+    fail_with(out, &row);
 }
 
 // What stands above the rows.
 fn put_head(out: &mut Out, widths: &[usize; COLUMNS], is_playing: bool) {
     if is_playing {
-        let mut row = writer(MEMORY);
+        let mut row = memory_for(out);
         fill_head(&mut row);
         put_row(out, &row, widths, 2, RIGHTS);
+        fail_with(out, &row);
         return;
     }
     text(out, b"\n  Not under this chord\n");
@@ -111,7 +115,7 @@ fn put_those(
     asked: Asked,
 ) {
     let mut widths = [0usize; COLUMNS];
-    measure_rows(&mut widths, rows, many, marks, asked);
+    measure_rows(out, &mut widths, rows, many, marks, asked);
     put_head(out, &widths, asked.is_playing);
     put_rows(out, &widths, rows, many, marks, asked);
 }

@@ -81,12 +81,10 @@ fn put_byte(out: &mut Out, piece: &[u8], q: usize) {
 
 // The end of the name that begins at `from`: at a comma, or at the text's end.
 pub fn name_end(s: &[u8], from: usize, end: usize) -> usize {
-    let mut i = from;
-    while i < end {
+    for i in from..end {
         if byte_at(s, i) == b',' {
             return i;
         }
-        i += 1;
     }
     end
 }
@@ -97,8 +95,7 @@ fn put_part(out: &mut Out, body: &[u8], start: usize) {
     let first = sum(start, 16);
     let end = sum(first, word_at(body, sum(start, 12)));
     let mut from = first;
-    let mut left: usize = 256;
-    while 0 < left {
+    for _ in 0..256 {
         let ended = name_end(body, from, end);
         let name = part(body, from, rest(ended, from));
         let found = find_part(before, name);
@@ -109,7 +106,6 @@ fn put_part(out: &mut Out, body: &[u8], start: usize) {
             return;
         }
         from = sum(ended, 1);
-        left -= 1;
     }
 }
 

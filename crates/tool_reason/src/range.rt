@@ -35,12 +35,10 @@ fn is_allowed(chunk: u8, k: usize, rule: u8, value: u8) -> bool {
 
 // The first value from `from` on that is allowed, or that is not; 256 where there is none.
 fn first_value(chunk: u8, k: usize, rule: u8, from: usize, is_sought: bool) -> usize {
-    let mut v = from;
-    while v < 256 {
+    for v in from..256 {
         if is_allowed(chunk, k, rule, (v % 256) as u8) == is_sought {
             return v;
         }
-        v += 1;
     }
     256
 }
@@ -83,8 +81,7 @@ fn put_between(out: &mut Out, before: usize, is_last: bool) {
 pub fn put_ranges(out: &mut Out, chunk: u8, k: usize, rule: u8) {
     let mut from: usize = 0;
     let mut before: usize = 0;
-    let mut left: usize = 129;
-    while 0 < left {
+    for _ in 0..129 {
         let span = next_span(chunk, k, rule, from);
         if 255 < span.low {
             return;
@@ -94,6 +91,5 @@ pub fn put_ranges(out: &mut Out, chunk: u8, k: usize, rule: u8) {
         put_span(out, span);
         from = span.high;
         before = sum(before, 1);
-        left -= 1;
     }
 }

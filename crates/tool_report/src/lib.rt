@@ -8,7 +8,7 @@ use listing::{put_listing, put_sections};
 use tool_entries::put_entry;
 use tool_look::list::LIST;
 use tool_look::{Seen, body_of};
-use tool_out::{MEMORY, Out, writer};
+use tool_out::{Out, fail_with, memory_for};
 use tool_rows::row::ROWS;
 
 fn put_entries(
@@ -27,7 +27,7 @@ fn put_entries(
 
 // The report of a file that was looked at.
 pub fn report(out: &mut Out, name: &[u8], file: &[u8], list: &[usize; LIST], seen: Seen) {
-    let mut words = writer(MEMORY);
+    let mut words = memory_for(out);
     let mut rows = tool_rows::row::room();
     put_head(out, name, file, list, seen);
     put_refused(out, &mut words, file, list, seen);
@@ -36,4 +36,5 @@ pub fn report(out: &mut Out, name: &[u8], file: &[u8], list: &[usize; LIST], see
     }
     put_sections(out, &mut words, file, seen);
     put_entries(out, &mut words, &mut rows, file, list, seen);
+    fail_with(out, &words);
 }

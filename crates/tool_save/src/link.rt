@@ -62,14 +62,12 @@ fn step(name: &mut [u8; PATH_MAX], length: usize) -> usize {
 // The path with its last link followed, and that one's, up to 40.
 pub fn followed(name: &mut [u8; PATH_MAX], path: &[u8]) -> usize {
     let mut length = append(name, 0, path);
-    let mut left: usize = 40;
-    while 0 < left {
+    for _ in 0..40 {
         let next = step(name, length);
         if next == 0 {
             return length;
         }
         length = next;
-        left -= 1;
     }
     length
 }

@@ -22,10 +22,8 @@ fn better_end(s: &[u8], from: usize, i: usize, is_comma: bool, before: usize) ->
 // The last place of at most `to` at which a line that begins at `from` may end, or `from`.
 fn last_end(s: &[u8], from: usize, to: usize, is_comma: bool) -> usize {
     let mut end = from;
-    let mut i = from;
-    while i < to {
-        i += 1;
-        end = better_end(s, from, i, is_comma, end);
+    for i in from..to {
+        end = better_end(s, from, i + 1, is_comma, end);
     }
     end
 }

@@ -3,10 +3,11 @@
 pub mod expected;
 pub mod mask;
 
+use std::alloc::{AllocError, Global};
 use tool_bytes::{least, rest, sum};
 use tool_chord::letter_of;
 use tool_chord::note::parse_note;
-use tool_out::{MEMORY, Out, held, text, word, writer};
+use tool_out::{MEMORY, Out, text, whole, word, writer};
 use tool_words::{names, put_chord, put_root, put_table};
 
 // The kinds of values. A rule of the first edition is none of those with tables of their own; a table is a Ctab's, a set's, or a set's under the rule Guitar.
@@ -119,21 +120,26 @@ pub fn put_named(out: &mut Out, kind: u8, value: u8) {
     put_later(out, kind, value);
 }
 
-fn is_named(kind: u8, k: usize, given: &[u8]) -> bool {
-    let mut out = writer(MEMORY);
+fn is_named(
+    alloc: Global,
+    kind: u8,
+    k: usize,
+    given: &[u8],
+) -> Result<bool, AllocError> {
+    let mut out = writer(alloc, MEMORY);
     put_named(&mut out, kind, byte_named(kind, k));
-    check::same(held(&out), given)
+    Ok(check::same(whole(&out)?, given))
 }
 
 // The byte that a name of a kind stands for.
-fn named(kind: u8, given: &[u8]) -> usize {
+fn named(alloc: Global, kind: u8, given: &[u8]) -> Result<usize, AllocError> {
     let count = count_of(kind);
     for k in 0..count {
-        if is_named(kind, k, given) {
-            return byte_named(kind, k) as usize;
+        if is_named(alloc, kind, k, given)? {
+            return Ok(byte_named(kind, k) as usize);
         }
     }
-    UNKNOWN
+    Ok(UNKNOWN)
 }
 
 // The digit that a byte is, or 10.
@@ -198,16 +204,16 @@ fn note_of(given: &[u8]) -> usize {
 }
 
 // The byte that a text stands for, a name of a kind or a number; whether it is sound is not looked at.
-pub fn value_of(kind: u8, given: &[u8]) -> usize {
+pub fn value_of(alloc: Global, kind: u8, given: &[u8]) -> Result<usize, AllocError> {
     if kind == ROOT {
-        return root_of(given);
+        return Ok(root_of(given));
     }
     if kind == NOTE {
-        return note_of(given);
+        return Ok(note_of(given));
     }
-    let byte = named(kind, given);
+    let byte = named(alloc, kind, given)?;
     if byte < UNKNOWN {
-        return byte;
+        return Ok(byte);
     }
-    numbered(kind, given)
+    Ok(numbered(kind, given))
 }
