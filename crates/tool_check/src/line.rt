@@ -68,13 +68,7 @@ fn put_begin(out: &mut Out, name: &[u8], verdict: &[u8]) {
     text(out, b"\",\"groups\":");
 }
 
-pub fn put_json_line(
-    out: &mut Out,
-    name: &[u8],
-    file: &[u8],
-    list: &[usize; LIST],
-    seen: Seen,
-) {
+pub fn put_json_line(out: &mut Out, name: &[u8], file: &[u8], list: &[usize; LIST], seen: Seen) {
     let body = body_of(file, seen.tag, seen.length);
     let totals = totals_of(body, list, seen.count);
     let words = verdict_words(seen.verdict);

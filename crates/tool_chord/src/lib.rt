@@ -1,5 +1,6 @@
 // A chord, a note and a channel as musicians write them: F#m7, Eb-1, 11.
 #![tactic(auto)]
+
 pub mod note;
 pub mod wrong;
 
@@ -17,7 +18,7 @@ pub const NO_ROOT: u8 = 1;
 
 pub const NO_TYPE: u8 = 2;
 
-#[derive(Drop)]
+#[derive(Clone, Copy)]
 pub struct Chord {
     pub root: u8,
     pub kind: u8,
@@ -25,7 +26,7 @@ pub struct Chord {
 }
 
 // A letter and what stands behind it: half steps above the C below, plus 12 so that Cb has a number too, and how many bytes it has; 0 bytes where there is no letter.
-#[derive(Drop)]
+#[derive(Clone, Copy)]
 pub struct Letter {
     pub steps: usize,
     pub length: usize,

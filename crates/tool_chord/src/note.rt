@@ -2,13 +2,13 @@
 use crate::letter_of;
 use tool_bytes::{byte_at, least, part, rest, sum};
 
-#[derive(Drop)]
+#[derive(Clone, Copy)]
 pub struct Note {
     pub note: u8,
     pub is_fine: bool,
 }
 
-#[derive(Drop)]
+#[derive(Clone, Copy)]
 pub struct Channel {
     pub channel: u8,
     pub is_fine: bool,

@@ -1,12 +1,13 @@
 // Bytes in hex, in rows of 16 that begin where an entry does: its first rows, and the row of a marked byte with one before it and one behind.
 #![tactic(auto)]
+
 pub mod json;
 
 use tool_bytes::{byte_at, least, part, rest, sum};
 use tool_out::{HTML, Out, PLAIN, byte, count, end_line, pair, text, text_as};
 
 // A dump: which bytes of a file, how wide, and the place of the byte that is marked, where one is.
-#[derive(Drop)]
+#[derive(Clone, Copy)]
 pub struct Dump {
     pub start: usize,
     pub length: usize,
@@ -75,14 +76,7 @@ fn put_cell(out: &mut Out, line: &[u8], k: usize) {
 }
 
 // The bytes of a line in hex, `across` of them where it is whole.
-fn put_cells(
-    out: &mut Out,
-    how: u8,
-    line: &[u8],
-    across: usize,
-    mark: usize,
-    is_marked: bool,
-) {
+fn put_cells(out: &mut Out, how: u8, line: &[u8], across: usize, mark: usize, is_marked: bool) {
     for k in 0..across {
         put_before(out, how, k, mark, is_marked);
         put_cell(out, line, k);
@@ -160,15 +154,7 @@ fn put_gap(out: &mut Out, how: u8) {
 }
 
 // `across` bytes of row r from its byte k on, as a line; nothing where the row has no such byte.
-fn put_piece(
-    out: &mut Out,
-    how: u8,
-    file: &[u8],
-    dump: Dump,
-    r: usize,
-    k: usize,
-    across: usize,
-) {
+fn put_piece(out: &mut Out, how: u8, file: &[u8], dump: Dump, r: usize, k: usize, across: usize) {
     let n = least(across, rest(row_length(dump, r), k));
     if n == 0 {
         return;
@@ -215,14 +201,7 @@ fn put_row(
 }
 
 // The dump in lines of `across` bytes, 16 or 8; behind it how many bytes more there are, where that is asked.
-pub fn put_dump(
-    out: &mut Out,
-    how: u8,
-    file: &[u8],
-    dump: Dump,
-    across: usize,
-    is_counted: bool,
-) {
+pub fn put_dump(out: &mut Out, how: u8, file: &[u8], dump: Dump, across: usize, is_counted: bool) {
     let rows = rows_of(dump);
     let mut last = dump.start;
     for r in 0..rows {

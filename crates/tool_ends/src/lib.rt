@@ -88,7 +88,8 @@ pub fn arg(rt: &impl Env, i: usize, given: &mut [u8]) -> usize
     }
 }
 
-fn has_argument(rt: &impl Env, i: usize) -> bool {
+// Whether there is an argument i.
+pub fn has_argument(rt: &impl Env, i: usize) -> bool {
     let mut given = [0u8; 1];
     match rt.arg(i, &mut given) {
         Ok(_) => true,

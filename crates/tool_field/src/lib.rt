@@ -55,7 +55,7 @@ pub const SECOND_TABLE: u8 = 17;
 pub const ALL_SETS: u8 = 3;
 
 // A field, and of which set.
-#[derive(Drop)]
+#[derive(Clone, Copy)]
 pub struct Field {
     pub field: u8,
     pub set: u8,

@@ -34,7 +34,7 @@ pub const SPECIAL: u8 = 7;
 
 pub const LONG_NAME: u8 = 8;
 
-#[derive(Drop)]
+#[derive(Clone, Copy)]
 pub struct Reading {
     pub outcome: u8,
     pub length: usize,

@@ -1,5 +1,6 @@
 // The help: each command in a line, with an example each.
 #![tactic(auto)]
+
 use tool_out::{Out, end_line, word};
 
 const LINES: [[u8; 80]; 26] = [

@@ -36,7 +36,7 @@ pub fn verdict_words(verdict: u8) -> [u8; 16] {
 }
 
 // What was found. A refusal's place counts from the body's start where there is a body, and else from the file's.
-#[derive(Drop)]
+#[derive(Clone, Copy)]
 pub struct Seen {
     pub verdict: u8,
     pub number: u8,

@@ -4,7 +4,7 @@ use casm::read::{find_group, group_text};
 use layout::edition::Edition;
 use tool_bytes::sum;
 
-#[derive(Drop)]
+#[derive(Clone, Copy)]
 pub struct Totals {
     pub sound: usize,
     pub damaged: usize,

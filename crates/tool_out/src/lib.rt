@@ -102,6 +102,16 @@ pub fn flush<R: Print + Eprint>(rt: &R, out: &mut Out) {
     clear(out);
 }
 
+// How much waits at most where much is written in turn.
+const BLOCK: usize = 65536;
+
+// Writes what waits, where that is a block.
+pub fn flush_block<R: Print + Eprint>(rt: &R, out: &mut Out) {
+    if BLOCK <= held(out).len() {
+        flush(rt, out);
+    }
+}
+
 pub fn byte(out: &mut Out, b: u8) {
     if let Err(e) = out.waiting.push(b) {
         out.memory = Err(AllocError::from(e));

@@ -1,5 +1,6 @@
 // What is the same in every page: its style sheet, and the words at its foot. None of it names anything outside the page.
 #![tactic(auto)]
+
 use tool_out::{Out, text};
 
 // Colours, light and dark, and the head of the page.

@@ -1,5 +1,6 @@
 // A keyboard of 128 keys, and the names of its octaves.
 #![tactic(auto)]
+
 use tool_out::{Out, byte, number, text};
 use tool_page_share::put_share;
 use tool_words::put_note;

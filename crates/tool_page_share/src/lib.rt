@@ -1,5 +1,6 @@
 // Places on a scale, in per cent with three decimals, each as a floating-point number of 64 bits would be printed.
 #![tactic(auto)]
+
 use tool_bytes::{rest, sum};
 use tool_out::{Out, byte, number};
 

@@ -1,5 +1,6 @@
 // The strips of a channel: a cell for each chord type, and the roots; filled where the channel plays.
 #![tactic(auto)]
+
 use tool_bytes::sum;
 use tool_out::{Out, byte, number, text};
 use tool_words::masks::{AUTO_START, ROOTS, TYPES, held_of, is_held, put_chords, put_mask};

@@ -14,7 +14,7 @@ use tool_who::{MARKS, is_marked, mark_playing, no_marks, put_why};
 use tool_words::{put_destination, put_voice_or_none};
 
 // A question: the chord, and whether those are told of that play or those that do not.
-#[derive(Drop)]
+#[derive(Clone, Copy)]
 struct Asked {
     root: u8,
     kind: u8,

@@ -11,7 +11,7 @@ use tool_look::{Seen, body_of};
 use tool_words::reasons;
 
 // A refusal: its number, its case, and its place in the bytes that it speaks of, a file's or a body's. The group or the section that it stands in begins at `start`, and what it must not run past ends at `end`.
-#[derive(Drop)]
+#[derive(Clone, Copy)]
 pub struct Cause {
     pub number: u8,
     pub case: u8,

@@ -10,7 +10,7 @@ pub const CTB2: u8 = 1;
 pub const CNTT: u8 = 2;
 
 // A range of values; none where the lowest is 256.
-#[derive(Drop)]
+#[derive(Clone, Copy)]
 struct Span {
     low: usize,
     high: usize,

@@ -1,5 +1,6 @@
 // Texts cut into lines, and rows of columns: a row is put into a writer in memory, a zero byte between its cells, measured, and printed.
 #![tactic(auto)]
+
 pub mod cut;
 pub mod row;
 

@@ -1,5 +1,6 @@
 // Words for the bytes of a record: every name once, and the texts that are made of names.
 #![tactic(auto)]
+
 pub mod fields;
 pub mod masks;
 pub mod names;
