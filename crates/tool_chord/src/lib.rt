@@ -86,7 +86,7 @@ fn kind_of(text: &[u8]) -> usize {
     if text.len() == 0 {
         return 0;
     }
-    for k in 0..34 {
+    for k in 0..34usize {
         if is_kind(text, (k % 256) as u8) {
             return k;
         }

@@ -6,7 +6,7 @@ use tool_words::put_chord;
 
 // The chord types behind the first.
 fn put_types(out: &mut Out) {
-    for k in 1..34 {
+    for k in 1..34usize {
         text(out, b", ");
         put_chord(out, (k % 256) as u8);
     }

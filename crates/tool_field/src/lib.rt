@@ -1,5 +1,6 @@
 // The fields of a record as an edit names them, and where their bytes stand.
 #![tactic(auto)]
+
 use tool_bytes::{part, sum};
 use tool_out::{Out, byte, text, trimmed_length, word};
 use tool_value::{

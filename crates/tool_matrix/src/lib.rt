@@ -14,7 +14,7 @@ use tool_words::{names, put_voice_or_none};
 // The roots above their columns.
 fn put_roots(out: &mut Out) {
     pad(out, 0, 10);
-    for k in 0..12 {
+    for k in 0..12usize {
         let name = names::root((k % 256) as u8);
         pad(out, trimmed_length(&name), 4);
         word(out, &name);

@@ -1,5 +1,6 @@
 // `casm note`: where a note of a channel is placed under a chord, and what of its record places it.
 #![tactic(auto)]
+
 use casm::questions::place_note;
 use casm::read::{find_channel, find_part};
 use casm_by_value::read_with_room;
@@ -8,7 +9,7 @@ use layout::record::{Record, SourceChannel};
 use layout::refusal::ROOT_FIXED;
 use tool_bytes::sum;
 use tool_chord::put_name;
-use tool_ends::{CANNOT, DONE, NO, begin, complain, end};
+use tool_ends::{CANNOT, DONE, Host, NO, begin, complain, end};
 use tool_out::{Out, PLAIN, SHOWN, end_line, number, text, text_as};
 use tool_placing::put_facts;
 use tool_rows::row::{ROWS, channel, room, voice};
@@ -96,8 +97,8 @@ fn put_channels(out: &mut Out, rows: &[u8; ROWS], many: usize) {
 }
 
 // No such channel in the part: those that it has.
-fn complain_channel(name: &[u8], rows: &[u8; ROWS], many: usize, given: u8) -> u8 {
-    let mut out = begin(b"note");
+fn complain_channel(rt: &impl Host, name: &[u8], rows: &[u8; ROWS], many: usize, given: u8) -> u8 {
+    let mut out = begin(rt, b"note");
     text(&mut out, b"no channel ");
     number(&mut out, sum(given as usize, 1));
     text(&mut out, b" in ");
@@ -108,7 +109,7 @@ fn complain_channel(name: &[u8], rows: &[u8; ROWS], many: usize, given: u8) -> u
         text(&mut out, b"; its channels are ");
         put_channels(&mut out, rows, many);
     }
-    end(&mut out);
+    end(rt, &mut out);
     CANNOT
 }
 
@@ -121,6 +122,7 @@ fn status_of(placed: Placed) -> u8 {
 
 // Tells where a note of a source channel of a part is placed under a chord. What the run comes to: the note is placed, or it is not, or there is no such channel.
 pub fn note(
+    rt: &impl Host,
     out: &mut Out,
     body: &[u8],
     name: &[u8],
@@ -132,13 +134,13 @@ pub fn note(
     let named = find_part(body, name);
     if named.number != 0 {
         let words = reasons::reason(reasons::NO_PART);
-        return complain(b"note", &words);
+        return complain(rt, b"note", &words);
     }
     let mut rows = room();
     let many = read_rows(&mut rows, body, named.group);
     let found = find_channel(body, named.group, SourceChannel(given));
     if found.number != 0 {
-        return complain_channel(name, &rows, many, given);
+        return complain_channel(rt, name, &rows, many, given);
     }
     let k = found.row;
     let record = record_at(body, named.group, k);

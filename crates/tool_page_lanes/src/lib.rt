@@ -1,5 +1,6 @@
 // Ranges of notes, drawn below a keyboard.
 #![tactic(auto)]
+
 use tool_bytes::{rest, sum};
 use tool_out::{Out, text, word};
 use tool_page_keys::put_at;

@@ -18,7 +18,7 @@ fn shown_sets(rows: &[u8; ROWS], k: usize) -> usize {
 }
 
 fn put_zones(out: &mut Out, rows: &[u8; ROWS], k: usize) {
-    for which in 0..3 {
+    for which in 0..3usize {
         let from = notes_from(rows, k, which);
         let end = notes_end(rows, k, which);
         put_zone(out, (which % 256) as u8, from, end);
@@ -26,7 +26,7 @@ fn put_zones(out: &mut Out, rows: &[u8; ROWS], k: usize) {
 }
 
 fn put_all_source_notes(out: &mut Out, rows: &[u8; ROWS], k: usize) {
-    for which in 0..3 {
+    for which in 0..3usize {
         if 0 < which {
             text(out, b"; ");
         }

@@ -31,6 +31,7 @@ fn place(
         return complain_note(rt, b"note", note);
     }
     tool_note::note(
+        rt,
         out,
         body,
         name,

@@ -1,6 +1,7 @@
 // A file written so that its name holds the old bytes or the new ones, and never half of them: a new file beside it is written, given its mode, synced, closed and then renamed.
 // On any failure the new file is removed, and the target is as it was.
 #![tactic(auto)]
+
 pub mod link;
 pub mod outcome;
 
@@ -12,7 +13,7 @@ use std::io;
 use std::io::{ErrorKind, Write};
 use std::os::unix::fs::{OpenOptionsExt, PermissionsExt};
 use std::rt::Files;
-use tool_bytes::{byte_at, part, rest};
+use tool_bytes::{part, rest};
 use tool_stat::path_text;
 
 // The longest path that C can be handed, with the zero behind it.
@@ -108,14 +109,13 @@ fn finish(rt: &impl Files, written: io::Result<()>, from: &str, target: &str) ->
 
 // How much of a path names its folder, with the slash behind it; 0 where none of it does.
 pub fn folder_length(path: &[u8]) -> usize {
-    let mut n = path.len();
-    while 0 < n {
-        if byte_at(path, rest(n, 1)) == b'/' {
-            return n;
+    let mut end = 0;
+    for i in 0..path.len() {
+        if path[i] == b'/' {
+            end = i + 1;
         }
-        n -= 1;
     }
-    0
+    end
 }
 
 // Waits until the device has what a folder holds.

@@ -1,9 +1,8 @@
 // The file that a link leads to, so that the file is replaced and not the link.
 use crate::{PATH_MAX, append, folder_length, held};
-use std::fs;
-use std::io;
 use std::io::ErrorKind;
 use std::rt::Files;
+use std::{fs, io};
 use tool_bytes::{byte_at, part};
 use tool_stat::path_text;
 

@@ -51,7 +51,7 @@ fn has_channel(body: &[u8], group: usize, channel: u8) -> bool {
 // The channels that a group has.
 fn put_channels(out: &mut Out, body: &[u8], group: usize) {
     let mut before: usize = 0;
-    for k in 0..16 {
+    for k in 0..16usize {
         if has_channel(body, group, (k % 256) as u8) {
             if 0 < before {
                 text(out, b", ");

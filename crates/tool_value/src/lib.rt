@@ -1,5 +1,6 @@
 // Values by name or by number, as the words of a report have them: what kinds there are, and the byte that a word stands for.
 #![tactic(auto)]
+
 pub mod expected;
 pub mod mask;
 
@@ -120,12 +121,7 @@ pub fn put_named(out: &mut Out, kind: u8, value: u8) {
     put_later(out, kind, value);
 }
 
-fn is_named(
-    alloc: Global,
-    kind: u8,
-    k: usize,
-    given: &[u8],
-) -> Result<bool, AllocError> {
+fn is_named(alloc: Global, kind: u8, k: usize, given: &[u8]) -> Result<bool, AllocError> {
     let mut out = writer(alloc, MEMORY);
     put_named(&mut out, kind, byte_named(kind, k));
     Ok(check::same(whole(&out)?, given))

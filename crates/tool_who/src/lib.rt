@@ -49,7 +49,7 @@ pub fn mark_playing(
 
 // Counts who plays under each chord, and marks who plays under one of them.
 pub fn count_all(counts: &mut [usize; CHORDS], marks: &mut [u8; MARKS], body: &[u8], name: &[u8]) {
-    for k in 0..408 {
+    for k in 0..408usize {
         let n = mark_playing(marks, body, name, (k % 12) as u8, (k / 12 % 34) as u8);
         counts[k] = n;
     }
