@@ -1,5 +1,6 @@
 // A record as it stands, row 0, and as it is to be, row 1: a field's bytes set by a word, and what changed.
 #![tactic(auto)]
+
 pub mod told;
 
 use std::alloc::{AllocError, Global};
@@ -116,7 +117,13 @@ pub fn rule_of(rows: &[u8; ROWS], k: usize, set: u8) -> u8 {
     byte_of(rows, k, place_of(is_second(rows, k), FIRST_OF_SET, set))
 }
 
-fn is_byte_set(alloc: Global, rows: &mut [u8; ROWS], field: u8, set: u8, given: &[u8]) -> Result<bool, AllocError> {
+fn is_byte_set(
+    alloc: Global,
+    rows: &mut [u8; ROWS],
+    field: u8,
+    set: u8,
+    given: &[u8],
+) -> Result<bool, AllocError> {
     let second = is_second(rows, NEW);
     let rule = rule_of(rows, NEW, set);
     let value = value_of(alloc, kind_of(second, field, rule), given)?;
@@ -128,7 +135,13 @@ fn is_byte_set(alloc: Global, rows: &mut [u8; ROWS], field: u8, set: u8, given: 
 }
 
 // Sets a field of one set, or of none; whether the word is a value of it.
-fn is_one_set(alloc: Global, rows: &mut [u8; ROWS], field: u8, set: u8, given: &[u8]) -> Result<bool, AllocError> {
+fn is_one_set(
+    alloc: Global,
+    rows: &mut [u8; ROWS],
+    field: u8,
+    set: u8,
+    given: &[u8],
+) -> Result<bool, AllocError> {
     if field == VOICE_FIELD {
         return Ok(is_voice_set(rows, given));
     }
@@ -145,7 +158,12 @@ fn is_one_set(alloc: Global, rows: &mut [u8; ROWS], field: u8, set: u8, given: &
 }
 
 // The first set in which a word is no value of a field, the sets before it set; ALL_SETS where there is none.
-fn first_unset(alloc: Global, rows: &mut [u8; ROWS], field: u8, given: &[u8]) -> Result<u8, AllocError> {
+fn first_unset(
+    alloc: Global,
+    rows: &mut [u8; ROWS],
+    field: u8,
+    given: &[u8],
+) -> Result<u8, AllocError> {
     if !is_one_set(alloc, rows, field, 0, given)? {
         return Ok(0);
     }
@@ -162,7 +180,12 @@ fn first_unset(alloc: Global, rows: &mut [u8; ROWS], field: u8, given: &[u8]) ->
 }
 
 // Sets a field to what a word says; where it says nothing, the set that it says nothing of, and else ALL_SETS.
-pub fn set_field(alloc: Global, rows: &mut [u8; ROWS], field: Field, given: &[u8]) -> Result<u8, AllocError> {
+pub fn set_field(
+    alloc: Global,
+    rows: &mut [u8; ROWS],
+    field: Field,
+    given: &[u8],
+) -> Result<u8, AllocError> {
     if field.set == ALL_SETS {
         return first_unset(alloc, rows, field.field, given);
     }

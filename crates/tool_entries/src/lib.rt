@@ -1,5 +1,6 @@
 // What the report says of each entry of a body: a sound group in full, any other with its reason, its place and its bytes.
 #![tactic(auto)]
+
 use casm::read::group_text;
 use tool_bytes::sum;
 use tool_dump::{Dump, put_dump};
@@ -29,13 +30,7 @@ fn put_places(out: &mut Out, base: usize, at: usize) {
 }
 
 // `Refusal 2: ..`, and what there is to say of it, each wrapped behind an indent.
-pub fn put_refusal(
-    out: &mut Out,
-    words: &mut Out,
-    s: &[u8],
-    cause: Cause,
-    indent: usize,
-) {
+pub fn put_refusal(out: &mut Out, words: &mut Out, s: &[u8], cause: Cause, indent: usize) {
     clear(words);
     text(words, b"Refusal ");
     number(words, cause.number as usize);
@@ -91,14 +86,7 @@ fn put_damaged(
     put_dump(out, PLAIN, file, dump, 16, true);
 }
 
-fn put_loose(
-    out: &mut Out,
-    file: &[u8],
-    base: usize,
-    body: &[u8],
-    list: &[usize; LIST],
-    k: usize,
-) {
+fn put_loose(out: &mut Out, file: &[u8], base: usize, body: &[u8], list: &[usize; LIST], k: usize) {
     let cause = cause_of_entry(body, list, k);
     text(out, b"  Refusal ");
     number(out, cause.number as usize);
@@ -115,13 +103,7 @@ fn put_loose(
 }
 
 // The tables of a group's channels.
-fn put_tables(
-    out: &mut Out,
-    words: &mut Out,
-    rows: &[u8; ROWS],
-    channels: usize,
-    edition: u8,
-) {
+fn put_tables(out: &mut Out, words: &mut Out, rows: &[u8; ROWS], channels: usize, edition: u8) {
     put_when(out, words, rows, channels);
     text(out, b"\n  How notes are placed\n");
     if edition == 1 {

@@ -1,5 +1,6 @@
 // The two tables of a sound group in the report: when its channels play, and how their notes are placed.
 #![tactic(auto)]
+
 pub mod placed;
 pub mod sets;
 
@@ -38,12 +39,7 @@ fn when_row(row: &mut Out, rows: &[u8; ROWS], k: usize) {
     put_chords(row, chord_mask(rows, k));
 }
 
-fn measure_when(
-    widths: &mut [usize; COLUMNS],
-    row: &mut Out,
-    rows: &[u8; ROWS],
-    count: usize,
-) {
+fn measure_when(widths: &mut [usize; COLUMNS], row: &mut Out, rows: &[u8; ROWS], count: usize) {
     when_head(row);
     measure(widths, row);
     for k in 0..count {

@@ -45,12 +45,7 @@ fn placed_row(cells: &mut Out, rows: &[u8; ROWS], k: usize) {
     put_limits(cells, rows, k, 20);
 }
 
-fn measure_placed(
-    widths: &mut [usize; COLUMNS],
-    cells: &mut Out,
-    rows: &[u8; ROWS],
-    count: usize,
-) {
+fn measure_placed(widths: &mut [usize; COLUMNS], cells: &mut Out, rows: &[u8; ROWS], count: usize) {
     placed_head(cells);
     measure(widths, cells);
     for k in 0..count {

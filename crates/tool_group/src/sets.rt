@@ -42,12 +42,7 @@ fn lines_of(rows: &[u8; ROWS], k: usize) -> usize {
     3
 }
 
-fn measure_channel(
-    widths: &mut [usize; COLUMNS],
-    cells: &mut Out,
-    rows: &[u8; ROWS],
-    k: usize,
-) {
+fn measure_channel(widths: &mut [usize; COLUMNS], cells: &mut Out, rows: &[u8; ROWS], k: usize) {
     let count = lines_of(rows, k);
     for set in 0..count {
         set_row(cells, rows, k, set);
@@ -55,12 +50,7 @@ fn measure_channel(
     }
 }
 
-fn measure_sets(
-    widths: &mut [usize; COLUMNS],
-    cells: &mut Out,
-    rows: &[u8; ROWS],
-    count: usize,
-) {
+fn measure_sets(widths: &mut [usize; COLUMNS], cells: &mut Out, rows: &[u8; ROWS], count: usize) {
     sets_head(cells);
     measure(widths, cells);
     for k in 0..count {

@@ -1,5 +1,6 @@
 // `casm report --json`: the same facts for programs, one object a file.
 #![tactic(auto)]
+
 pub mod channel;
 pub mod entry;
 pub mod put;
@@ -84,13 +85,7 @@ fn put_casm(out: &mut Out, seen: Seen) {
 }
 
 // The refusal of the file or of its body, with the bytes there.
-fn put_refused(
-    out: &mut Out,
-    words: &mut Out,
-    file: &[u8],
-    list: &[usize; LIST],
-    seen: Seen,
-) {
+fn put_refused(out: &mut Out, words: &mut Out, file: &[u8], list: &[usize; LIST], seen: Seen) {
     if seen.verdict == SOUND {
         text(out, b",\"refusal\":null");
         return;

@@ -1,5 +1,6 @@
 // `casm list FILE`: document 01's list, of a named file of up to 1 MiB.
 #![tactic(auto)]
+
 use casm::list::list_salvage;
 use casm::read::find_casm;
 use tool_ends::{DONE, NO};

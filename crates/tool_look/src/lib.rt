@@ -1,5 +1,6 @@
 // What a file is found to be: its CASM section, whether the body is sound, and the body's entries.
 #![tactic(auto)]
+
 pub mod list;
 pub mod totals;
 

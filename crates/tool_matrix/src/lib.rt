@@ -1,5 +1,6 @@
 // `casm plays` for people, of a part alone: how many of its channels play under each chord, which start by themselves, and which play under no chord.
 #![tactic(auto)]
+
 use casm::read::find_part;
 use tool_bytes::sum;
 use tool_out::{

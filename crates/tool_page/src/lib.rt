@@ -1,5 +1,6 @@
 // A style file as one HTML page, complete in itself: no script, and nothing from outside. It is written as it goes.
 #![tactic(auto)]
+
 pub mod cards;
 pub mod top;
 

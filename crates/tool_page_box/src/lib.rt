@@ -1,5 +1,6 @@
 // An entry of the body as a box on a scale, with its number and its words.
 #![tactic(auto)]
+
 use tool_bytes::sum;
 use tool_look::list::{LIST, length_of, place_of};
 use tool_look::{Seen, body_place};

@@ -1,5 +1,6 @@
 // What the page says of the file: its verdict, its refusal, its sections.
 #![tactic(auto)]
+
 pub mod refused;
 pub mod sections;
 

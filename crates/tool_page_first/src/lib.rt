@@ -1,5 +1,6 @@
 // How notes are placed by a channel of the first edition: one set, and the table of its Cntt.
 #![tactic(auto)]
+
 pub mod facts;
 
 use facts::{begin_fact, end_fact, put_source_chord};

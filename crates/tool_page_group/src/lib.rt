@@ -1,5 +1,6 @@
 // A sound group: its parts, and a row for each channel.
 #![tactic(auto)]
+
 use casm::read::group_text;
 use tool_bytes::sum;
 use tool_look::list::{LIST, entry, length_of, place_of};

@@ -1,5 +1,6 @@
 // The body to scale: a map of its entries, and their index.
 #![tactic(auto)]
+
 use tool_bytes::sum;
 use tool_look::list::LIST;
 use tool_look::totals::Totals;

@@ -1,5 +1,6 @@
 // How notes are placed by a channel of the second edition: three sets, or one for all where they are the same.
 #![tactic(auto)]
+
 use tool_bytes::sum;
 use tool_out::{Out, byte, text};
 use tool_page_first::facts::{put_middle_notes, put_source_chord, put_unexplained};

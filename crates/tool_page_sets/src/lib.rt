@@ -1,5 +1,6 @@
 // The settings of a set of six bytes, each under its name; the sets of a record.
 #![tactic(auto)]
+
 use tool_bytes::{rest, sum};
 use tool_out::{Out, byte, text, word};
 use tool_rows::row::{ROWS, byte_of, is_second, set_place};

@@ -1,5 +1,6 @@
 // The table of a record's sets, a line for each.
 #![tactic(auto)]
+
 use tool_out::{Out, byte, text, word};
 use tool_page_sets::{NOTES, RULE, SETTINGS, head, put_setting};
 use tool_rows::row::ROWS;

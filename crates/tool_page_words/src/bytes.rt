@@ -2,14 +2,7 @@
 use tool_dump::{Dump, put_dump};
 use tool_out::{HTML, Out, text};
 
-fn put_rows(
-    out: &mut Out,
-    name: &[u8],
-    file: &[u8],
-    dump: Dump,
-    across: usize,
-    is_counted: bool,
-) {
+fn put_rows(out: &mut Out, name: &[u8], file: &[u8], dump: Dump, across: usize, is_counted: bool) {
     text(out, b"<pre class=\"");
     text(out, name);
     text(

@@ -1,5 +1,6 @@
 // What the page says of an entry in more than one place: its kind, its title, where it stands, and its bytes.
 #![tactic(auto)]
+
 pub mod bytes;
 pub mod parts;
 

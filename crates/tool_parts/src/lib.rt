@@ -1,5 +1,6 @@
 // The part names of a group for people, and the sections of a file one by one.
 #![tactic(auto)]
+
 use casm::read::read_section;
 use layout::refusal::{CUT, TAG_AGAIN};
 use tool_bytes::{byte_at, part, rest, sum};

@@ -1,5 +1,6 @@
 // What of a channel's record places a note: its set, and the set's rule, table, high key, limits and retrigger.
 #![tactic(auto)]
+
 use ask_place::choose::{effective_table, set_of_ctb2};
 use layout::record::SecondTable;
 use layout::size::SECOND_RECORD;

@@ -1,6 +1,7 @@
 // `casm plays` for people: who plays under a chord; and of a part alone, how many play under each.
 
 #![tactic(auto)]
+
 use casm::read::find_part;
 use tool_bytes::rest;
 use tool_chord::put_name;
@@ -107,13 +108,7 @@ fn put_head(out: &mut Out, widths: &[usize; COLUMNS], is_playing: bool) {
 }
 
 // Those that play, or those that do not.
-fn put_those(
-    out: &mut Out,
-    rows: &[u8; ROWS],
-    many: usize,
-    marks: &[u8; MARKS],
-    asked: Asked,
-) {
+fn put_those(out: &mut Out, rows: &[u8; ROWS], many: usize, marks: &[u8; MARKS], asked: Asked) {
     let mut widths = [0usize; COLUMNS];
     measure_rows(out, &mut widths, rows, many, marks, asked);
     put_head(out, &widths, asked.is_playing);

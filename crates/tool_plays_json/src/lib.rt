@@ -1,5 +1,6 @@
 // `casm plays --json`: who plays under a chord, and how many under each, as one object.
 #![tactic(auto)]
+
 pub mod matrix;
 
 use casm::read::find_part;

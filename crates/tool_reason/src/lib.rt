@@ -1,5 +1,6 @@
 // Why a file, a body or an entry of it is refused: which case of the refusal it is, told from the bytes at its place, and what there is to say of it.
 #![tactic(auto)]
+
 pub mod detail;
 pub mod range;
 

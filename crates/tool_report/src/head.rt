@@ -117,13 +117,7 @@ pub fn dump_of(file: &[u8], seen: Seen) -> Dump {
 }
 
 // The refusal, where there is one; that there is no CASM is said already.
-pub fn put_refused(
-    out: &mut Out,
-    words: &mut Out,
-    file: &[u8],
-    list: &[usize; LIST],
-    seen: Seen,
-) {
+pub fn put_refused(out: &mut Out, words: &mut Out, file: &[u8], list: &[usize; LIST], seen: Seen) {
     if seen.verdict == SOUND || seen.verdict == NO_CASM {
         return;
     }

@@ -1,5 +1,6 @@
 // `casm report`: the file as a person reads it. The verdict first, then the refusal with its bytes, the entries, the sections, and each entry in full.
 #![tactic(auto)]
+
 pub mod head;
 pub mod listing;
 

@@ -109,13 +109,7 @@ fn put_rows(
 }
 
 // The groups of a sound body, or the entries of any other.
-pub fn put_listing(
-    out: &mut Out,
-    row: &mut Out,
-    file: &[u8],
-    list: &[usize; LIST],
-    seen: Seen,
-) {
+pub fn put_listing(out: &mut Out, row: &mut Out, file: &[u8], list: &[usize; LIST], seen: Seen) {
     let body = body_of(file, seen.tag, seen.length);
     let mut widths = [0usize; COLUMNS];
     if seen.verdict == SOUND {

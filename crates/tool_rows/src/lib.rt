@@ -1,5 +1,6 @@
 // The channels of a sound group, as rows of bytes: what the records of either edition hold, and the Cntt.
 #![tactic(auto)]
+
 pub mod row;
 
 use casm::bytes::bytes_of;

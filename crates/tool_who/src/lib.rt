@@ -1,5 +1,6 @@
 // Who plays, asked of the library: under one chord, and under each of the 408; and why a channel does not.
 #![tactic(auto)]
+
 use casm::questions::who_plays;
 use layout::record::SourceChannel;
 use tool_bytes::least;
