@@ -1,85 +1,90 @@
 // `casm`: what is asked for is looked up by its word, answered, printed, and its status told.
 #![tactic(auto)]
-use tool_ends::{CANNOT, DONE, begin, complain_of, end, is_word, quoted, take_descriptors, tell};
+
+use std::process::ExitCode;
+use tool_ends::{
+    CANNOT, DONE, Host, begin, complain_of, end, is_word, quoted, take_descriptors, tell,
+};
 use tool_help::put_help;
-use tool_out::{OUT, OUTPUT, flush, is_failed, text, writer};
+use tool_out::{OUTPUT, Out, flush, is_failed, text, writer};
 
 // No such command.
-fn refuse(i: usize) -> u8 {
-    let mut word = io::buffer();
-    let n = os::arg(i, &mut word);
-    let mut out = begin(b"");
+fn refuse(rt: &impl Host, i: usize) -> u8 {
+    let mut word = tool_ends::buffer();
+    let n = tool_ends::arg(rt, i, &mut word);
+    let mut out = begin(rt, b"");
     text(&mut out, b"no command ");
     quoted(&mut out, &word[..n]);
     text(
         &mut out,
         b"; expected report, check, plays, note, edit, verify, page, list or help",
     );
-    end(&mut out);
+    end(rt, &mut out);
     CANNOT
 }
 
 // Answers a command that shows a file or several.
-fn show(out: &mut [u8; OUT], i: usize, from: usize) -> u8 {
-    if is_word(i, b"report") {
-        return tool_shown::report(out, from);
+fn show(rt: &impl Host, out: &mut Out, i: usize, from: usize) -> u8 {
+    if is_word(rt, i, b"report") {
+        return tool_shown::report(rt, out, from);
     }
-    if is_word(i, b"check") {
-        return tool_shown::check(out, from);
+    if is_word(rt, i, b"check") {
+        return tool_shown::check(rt, out, from);
     }
-    if is_word(i, b"page") {
-        return tool_shown::page(out, from);
+    if is_word(rt, i, b"page") {
+        return tool_shown::page(rt, out, from);
     }
-    if is_word(i, b"list") {
-        return tool_shown::list(out, from);
+    if is_word(rt, i, b"list") {
+        return tool_shown::list(rt, out, from);
     }
-    refuse(i)
+    refuse(rt, i)
 }
 
 // Answers the command that is argument i.
-fn answer(out: &mut [u8; OUT], i: usize) -> u8 {
-    if os::arg_count() <= i {
+fn answer(rt: &impl Host, out: &mut Out, i: usize) -> u8 {
+    if tool_ends::arg_count(rt) <= i {
         put_help(out);
         return DONE;
     }
     let from = tool_bytes::sum(i, 1);
-    if is_word(i, b"help") || is_word(i, b"--help") {
+    if is_word(rt, i, b"help") || is_word(rt, i, b"--help") {
         put_help(out);
         return DONE;
     }
-    if is_word(i, b"plays") {
-        return tool_part::plays::plays(out, from);
+    if is_word(rt, i, b"plays") {
+        return tool_part::plays::plays(rt, out, from);
     }
-    if is_word(i, b"note") {
-        return tool_part::note::note(out, from);
+    if is_word(rt, i, b"note") {
+        return tool_part::note::note(rt, out, from);
     }
-    if is_word(i, b"edit") {
-        return tool_edit::edit(out, from);
+    if is_word(rt, i, b"edit") {
+        return tool_edit::edit(rt, out, from);
     }
-    if is_word(i, b"verify") {
-        return tool_verify::verify(out, from);
+    if is_word(rt, i, b"verify") {
+        return tool_verify::verify(rt, out, from);
     }
-    show(out, i, from)
+    show(rt, out, i, from)
 }
 
 // Where the first argument asks that the status is told, the command is the second.
-fn answer_first(out: &mut [u8; OUT], is_told: bool) -> u8 {
+fn answer_first(rt: &impl Host, out: &mut Out, is_told: bool) -> u8 {
     if is_told {
-        return answer(out, 2);
+        return answer(rt, out, 2);
     }
-    answer(out, 1)
+    answer(rt, out, 1)
 }
 
-fn main() {
-    take_descriptors();
-    let is_told = is_word(1, b"--status-to-3");
-    let mut out = writer(OUTPUT);
-    let mut status = answer_first(&mut out, is_told);
-    flush(&mut out);
+fn main(rt: HostRuntime) -> ExitCode {
+    take_descriptors(&rt);
+    let is_told = is_word(&rt, 1, b"--status-to-3");
+    let mut out = writer(rt.alloc(), OUTPUT);
+    let mut status = answer_first(&rt, &mut out, is_told);
+    flush(&rt, &mut out);
     if is_failed(&out) {
-        status = complain_of(b"", b"standard output", b"it cannot be written");
+        status = complain_of(&rt, b"", b"standard output", b"it cannot be written");
     }
     if is_told {
-        tell(status);
+        tell(&rt, status);
     }
+    ExitCode::from(status)
 }

@@ -1,5 +1,6 @@
 // Bytes and numbers for code that prints: every position and every sum has an answer, so that nothing is owed where it is asked.
 #![tactic(auto)]
+
 ghost use Rattle.std.specs.Prelude.{◌<◌, ◌≤◌};
 
 // The part of a text that begins at `at` and has so many bytes; what of it is past the end is left off.

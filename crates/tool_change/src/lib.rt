@@ -1,7 +1,9 @@
 // A record as it stands, row 0, and as it is to be, row 1: a field's bytes set by a word, and what changed.
 #![tactic(auto)]
+
 pub mod told;
 
+use std::alloc::{AllocError, Global};
 use tool_bytes::{byte_at, rest, sum};
 use tool_field::{
     ALL_SETS, AUTO_FIELD, CHORDS_FIELD, FIRST_OF_SET, Field, ROOTS_FIELD, VOICE_FIELD, kind_of,
@@ -24,10 +26,8 @@ fn put_both(rows: &mut [u8; ROWS], i: usize, value: u8) {
 
 // Fills both rows with a record of an edition.
 pub fn fill(rows: &mut [u8; ROWS], record: &[u8], is_second: bool) {
-    let mut i: usize = 0;
-    while i < 47 {
+    for i in 0..47 {
         put_both(rows, i, byte_at(record, i));
-        i += 1;
     }
     if is_second {
         put_both(rows, tool_rows::row::EDITION, 2);
@@ -48,10 +48,8 @@ fn is_voice_set(rows: &mut [u8; ROWS], given: &[u8]) -> bool {
     if 8 < given.len() {
         return false;
     }
-    let mut i: usize = 0;
-    while i < 8 {
+    for i in 0..8 {
         set_byte(rows, NEW, sum(i, 1), voice_byte(given, i));
-        i += 1;
     }
     true
 }
@@ -64,14 +62,14 @@ fn mask_byte(mask: usize, bit: usize) -> u8 {
     ((mask >> bit) % 256) as u8
 }
 
-fn is_roots_set(rows: &mut [u8; ROWS], given: &[u8]) -> bool {
-    let mask = roots(given);
+fn is_roots_set(alloc: Global, rows: &mut [u8; ROWS], given: &[u8]) -> Result<bool, AllocError> {
+    let mask = roots(alloc, given)?;
     if mask == NO_MASK {
-        return false;
+        return Ok(false);
     }
     set_byte(rows, NEW, 11, mask_byte(mask, 8));
     set_byte(rows, NEW, 12, mask_byte(mask, 0));
-    true
+    Ok(true)
 }
 
 // Byte 13 with other bits for chord types: the bit for starting by itself stays.
@@ -81,10 +79,10 @@ fn chords_13(old: u8, mask: usize) -> u8 {
     kept + bits
 }
 
-fn is_chords_set(rows: &mut [u8; ROWS], given: &[u8]) -> bool {
-    let mask = chords(given);
+fn is_chords_set(alloc: Global, rows: &mut [u8; ROWS], given: &[u8]) -> Result<bool, AllocError> {
+    let mask = chords(alloc, given)?;
     if mask == NO_MASK {
-        return false;
+        return Ok(false);
     }
     let first = chords_13(byte_of(rows, NEW, 13), mask);
     set_byte(rows, NEW, 13, first);
@@ -92,7 +90,7 @@ fn is_chords_set(rows: &mut [u8; ROWS], given: &[u8]) -> bool {
     set_byte(rows, NEW, 15, mask_byte(mask, 16));
     set_byte(rows, NEW, 16, mask_byte(mask, 8));
     set_byte(rows, NEW, 17, mask_byte(mask, 0));
-    true
+    Ok(true)
 }
 
 // Byte 13 with the bit for starting by itself, or without it.
@@ -104,14 +102,14 @@ fn auto_13(old: u8, value: usize) -> u8 {
     (sum(without, 4) % 256) as u8
 }
 
-fn is_auto_set(rows: &mut [u8; ROWS], given: &[u8]) -> bool {
-    let value = value_of(SWITCH, given);
+fn is_auto_set(alloc: Global, rows: &mut [u8; ROWS], given: &[u8]) -> Result<bool, AllocError> {
+    let value = value_of(alloc, SWITCH, given)?;
     if value == UNKNOWN {
-        return false;
+        return Ok(false);
     }
     let first = auto_13(byte_of(rows, NEW, 13), value);
     set_byte(rows, NEW, 13, first);
-    true
+    Ok(true)
 }
 
 // The rule that is to be, of a set.
@@ -119,69 +117,89 @@ pub fn rule_of(rows: &[u8; ROWS], k: usize, set: u8) -> u8 {
     byte_of(rows, k, place_of(is_second(rows, k), FIRST_OF_SET, set))
 }
 
-fn is_byte_set(rows: &mut [u8; ROWS], field: u8, set: u8, given: &[u8]) -> bool {
+fn is_byte_set(
+    alloc: Global,
+    rows: &mut [u8; ROWS],
+    field: u8,
+    set: u8,
+    given: &[u8],
+) -> Result<bool, AllocError> {
     let second = is_second(rows, NEW);
     let rule = rule_of(rows, NEW, set);
-    let value = value_of(kind_of(second, field, rule), given);
+    let value = value_of(alloc, kind_of(second, field, rule), given)?;
     if UNKNOWN <= value {
-        return false;
+        return Ok(false);
     }
     set_byte(rows, NEW, place_of(second, field, set), (value % 256) as u8);
-    true
+    Ok(true)
 }
 
 // Sets a field of one set, or of none; whether the word is a value of it.
-fn is_one_set(rows: &mut [u8; ROWS], field: u8, set: u8, given: &[u8]) -> bool {
+fn is_one_set(
+    alloc: Global,
+    rows: &mut [u8; ROWS],
+    field: u8,
+    set: u8,
+    given: &[u8],
+) -> Result<bool, AllocError> {
     if field == VOICE_FIELD {
-        return is_voice_set(rows, given);
+        return Ok(is_voice_set(rows, given));
     }
     if field == ROOTS_FIELD {
-        return is_roots_set(rows, given);
+        return is_roots_set(alloc, rows, given);
     }
     if field == CHORDS_FIELD {
-        return is_chords_set(rows, given);
+        return is_chords_set(alloc, rows, given);
     }
     if field == AUTO_FIELD {
-        return is_auto_set(rows, given);
+        return is_auto_set(alloc, rows, given);
     }
-    is_byte_set(rows, field, set, given)
+    is_byte_set(alloc, rows, field, set, given)
 }
 
 // The first set in which a word is no value of a field, the sets before it set; ALL_SETS where there is none.
-fn first_unset(rows: &mut [u8; ROWS], field: u8, given: &[u8]) -> u8 {
-    if !is_one_set(rows, field, 0, given) {
-        return 0;
+fn first_unset(
+    alloc: Global,
+    rows: &mut [u8; ROWS],
+    field: u8,
+    given: &[u8],
+) -> Result<u8, AllocError> {
+    if !is_one_set(alloc, rows, field, 0, given)? {
+        return Ok(0);
     }
     if !is_second(rows, NEW) || field < FIRST_OF_SET {
-        return ALL_SETS;
+        return Ok(ALL_SETS);
     }
-    if !is_one_set(rows, field, 1, given) {
-        return 1;
+    if !is_one_set(alloc, rows, field, 1, given)? {
+        return Ok(1);
     }
-    if !is_one_set(rows, field, 2, given) {
-        return 2;
+    if !is_one_set(alloc, rows, field, 2, given)? {
+        return Ok(2);
     }
-    ALL_SETS
+    Ok(ALL_SETS)
 }
 
 // Sets a field to what a word says; where it says nothing, the set that it says nothing of, and else ALL_SETS.
-pub fn set_field(rows: &mut [u8; ROWS], field: Field, given: &[u8]) -> u8 {
+pub fn set_field(
+    alloc: Global,
+    rows: &mut [u8; ROWS],
+    field: Field,
+    given: &[u8],
+) -> Result<u8, AllocError> {
     if field.set == ALL_SETS {
-        return first_unset(rows, field.field, given);
+        return first_unset(alloc, rows, field.field, given);
     }
-    if is_one_set(rows, field.field, field.set, given) {
-        return ALL_SETS;
+    if is_one_set(alloc, rows, field.field, field.set, given)? {
+        return Ok(ALL_SETS);
     }
-    field.set
+    Ok(field.set)
 }
 
 // The bytes of a row as a record is made of them.
 pub fn record_bytes(rows: &[u8; ROWS], k: usize) -> [u8; 47] {
     let mut b = [0u8; 47];
-    let mut i: usize = 0;
-    while i < 47 {
+    for i in 0..47 {
         b[i] = byte_of(rows, k, i);
-        i += 1;
     }
     b
 }

@@ -5,7 +5,7 @@ use tool_field::{
     ALL_SETS, AUTO_FIELD, CHORDS_FIELD, FIRST_OF_SET, MIDDLE_LOW, TABLE_FIELD, kind_of, place_of,
     put_label, size_of,
 };
-use tool_out::{MEMORY, OUT, SHOWN, clear, end_line, held, number, pad, text, writer};
+use tool_out::{Out, SHOWN, clear, end_line, fail_with, held, memory_for, number, pad, text};
 use tool_rows::row::{ROWS, byte_of, bytes, chord_mask, is_second, root_mask, voice};
 use tool_value::{CHORDS, DESTINATION, NOTE, ROOTS, VOICE, put_named};
 use tool_words::masks::{is_held, put_mask};
@@ -61,7 +61,7 @@ fn is_auto(rows: &[u8; ROWS], k: usize) -> bool {
 }
 
 // A byte in the words of its kind.
-fn put_byte(out: &mut [u8; OUT], kind: u8, value: u8) {
+fn put_byte(out: &mut Out, kind: u8, value: u8) {
     if kind == NOTE {
         put_note(out, value);
         text(out, b" (");
@@ -77,7 +77,7 @@ fn put_byte(out: &mut [u8; OUT], kind: u8, value: u8) {
 }
 
 // What the field of this number holds in row k.
-fn put_held(out: &mut [u8; OUT], rows: &[u8; ROWS], k: usize, slot: usize) {
+fn put_held(out: &mut Out, rows: &[u8; ROWS], k: usize, slot: usize) {
     let field = slot_field(slot);
     let set = slot_set(slot);
     let second = is_second(rows, k);
@@ -110,35 +110,32 @@ fn label_set(rows: &[u8; ROWS], slot: usize) -> u8 {
 }
 
 // How wide the name of a field is.
-fn label_width(rows: &[u8; ROWS], slot: usize) -> usize {
-    let mut out = writer(MEMORY);
-    put_label(&mut out, slot_field(slot), label_set(rows, slot));
-    let s = held(&out);
+fn label_width(out: &mut Out, rows: &[u8; ROWS], slot: usize) -> usize {
+    let mut words = memory_for(out);
+    put_label(&mut words, slot_field(slot), label_set(rows, slot));
+    fail_with(out, &words);
+    let s = held(&words);
     s.len()
 }
 
 // How many fields changed.
 pub fn count_changed(rows: &[u8; ROWS]) -> usize {
     let mut n: usize = 0;
-    let mut slot: usize = 0;
-    while slot < 28 {
+    for slot in 0..28 {
         if is_changed(rows, slot) {
             n = sum(n, 1);
         }
-        slot += 1;
     }
     n
 }
 
 // How wide the widest name of those is.
-fn widest(rows: &[u8; ROWS]) -> usize {
+fn widest(out: &mut Out, rows: &[u8; ROWS]) -> usize {
     let mut width: usize = 0;
-    let mut slot: usize = 0;
-    while slot < 28 {
+    for slot in 0..28 {
         if is_changed(rows, slot) {
-            width = most(width, label_width(rows, slot));
+            width = most(width, label_width(out, rows, slot));
         }
-        slot += 1;
     }
     width
 }
@@ -150,10 +147,11 @@ fn most(a: usize, b: usize) -> usize {
     a
 }
 
-fn put_change(out: &mut [u8; OUT], rows: &[u8; ROWS], slot: usize, width: usize) {
+fn put_change(out: &mut Out, rows: &[u8; ROWS], slot: usize, width: usize) {
     text(out, b"  ");
     put_label(out, slot_field(slot), label_set(rows, slot));
-    pad(out, label_width(rows, slot), sum(width, 2));
+    let own = label_width(out, rows, slot);
+    pad(out, own, sum(width, 2));
     put_held(out, rows, OLD, slot);
     text(out, b" -> ");
     put_held(out, rows, NEW, slot);
@@ -161,13 +159,11 @@ fn put_change(out: &mut [u8; OUT], rows: &[u8; ROWS], slot: usize, width: usize)
 }
 
 // A line for each field that changed: old and new.
-pub fn put_changes(out: &mut [u8; OUT], rows: &[u8; ROWS]) {
-    let width = widest(rows);
-    let mut slot: usize = 0;
-    while slot < 28 {
+pub fn put_changes(out: &mut Out, rows: &[u8; ROWS]) {
+    let width = widest(out, rows);
+    for slot in 0..28 {
         if is_changed(rows, slot) {
             put_change(out, rows, slot, width);
         }
-        slot += 1;
     }
 }

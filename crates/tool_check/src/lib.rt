@@ -1,15 +1,16 @@
 // `casm check FILE..`: a line a file, and how many there are of each kind.
 #![tactic(auto)]
+
 pub mod line;
 
 use line::{put_json_line, put_line};
 use tool_asked::{Asked, next_name};
 use tool_bytes::sum;
-use tool_ends::{CANNOT, DONE, NO};
+use tool_ends::{CANNOT, DONE, Host, NO};
 use tool_files::{FILE, READ, contents, read_file};
 use tool_look::list::LIST;
 use tool_look::look;
-use tool_out::{ERRORS, OUT, byte, count, flush, grouped, number, text, writer};
+use tool_out::{ERRORS, Out, byte, count, flush, flush_block, grouped, number, text, writer};
 
 // What a file was: the verdicts of `tool_look`, and one that was not read.
 const KINDS: usize = 5;
@@ -18,13 +19,14 @@ const UNREAD: u8 = 4;
 
 // Checks the file that a path names, and says in a line what it is.
 fn check_path(
-    out: &mut [u8; OUT],
+    rt: &impl Host,
+    out: &mut Out,
     path: &[u8],
     is_json: bool,
     bytes: &mut [u8; FILE],
     list: &mut [usize; LIST],
 ) -> u8 {
-    let reading = read_file(path, bytes);
+    let reading = read_file(rt, path, bytes);
     if reading.outcome != READ {
         line::put_unread(out, path, is_json, reading.outcome);
         return UNREAD;
@@ -40,15 +42,16 @@ fn check_path(
 }
 
 fn check_argument(
-    out: &mut [u8; OUT],
+    rt: &impl Host,
+    out: &mut Out,
     i: usize,
     is_json: bool,
     bytes: &mut [u8; FILE],
     list: &mut [usize; LIST],
 ) -> u8 {
-    let mut path = io::buffer();
-    let n = os::arg(i, &mut path);
-    check_path(out, &path[..n], is_json, bytes, list)
+    let mut path = tool_ends::buffer();
+    let n = tool_ends::arg(rt, i, &mut path);
+    check_path(rt, out, &path[..n], is_json, bytes, list)
 }
 
 fn count_one(counts: &mut [usize; KINDS], kind: u8) {
@@ -59,49 +62,49 @@ fn count_one(counts: &mut [usize; KINDS], kind: u8) {
 }
 
 // How far it has come, on standard error where that is a terminal, one line over the other.
-fn put_progress(done: usize, all: usize) {
-    let mut out = writer(ERRORS);
+fn put_progress(rt: &impl Host, done: usize, all: usize) {
+    let mut out = writer(rt.alloc(), ERRORS);
     text(&mut out, b"\rchecked ");
     grouped(&mut out, done);
     text(&mut out, b" of ");
     grouped(&mut out, all);
-    flush(&mut out);
+    flush(rt, &mut out);
 }
 
-fn clear_progress() {
-    let mut out = writer(ERRORS);
+fn clear_progress(rt: &impl Host) {
+    let mut out = writer(rt.alloc(), ERRORS);
     text(&mut out, b"\r                                        \r");
-    flush(&mut out);
+    flush(rt, &mut out);
 }
 
-fn is_watched(all: usize) -> bool {
+fn is_watched(rt: &impl Host, all: usize) -> bool {
     if all <= 50 {
         return false;
     }
-    libc::isatty(libc::STDERR_FILENO) == 1
+    rt.is_watched()
 }
 
 fn check_all(
-    out: &mut [u8; OUT],
+    rt: &impl Host,
+    out: &mut Out,
     asked: Asked,
     bytes: &mut [u8; FILE],
     list: &mut [usize; LIST],
     counts: &mut [usize; KINDS],
 ) {
-    let is_watched = is_watched(asked.words);
+    let is_watched = is_watched(rt, asked.words);
     let mut i = asked.first;
-    let mut left = asked.words;
-    while 0 < left {
-        let kind = check_argument(out, i, asked.is_json, bytes, list);
+    for done in 0..asked.words {
+        let kind = check_argument(rt, out, i, asked.is_json, bytes, list);
         count_one(counts, kind);
-        if is_watched && left % 50 == 0 {
-            put_progress(tool_bytes::rest(asked.words, left), asked.words);
+        flush_block(rt, out);
+        if is_watched && (asked.words - done) % 50 == 0 {
+            put_progress(rt, done, asked.words);
         }
-        i = next_name(i);
-        left -= 1;
+        i = next_name(rt, i);
     }
     if is_watched {
-        clear_progress();
+        clear_progress(rt);
     }
 }
 
@@ -116,7 +119,7 @@ fn status_of(counts: &[usize; KINDS]) -> u8 {
 }
 
 // How many files there are of a kind, behind those before it.
-fn put_kind(out: &mut [u8; OUT], counts: &[usize; KINDS], k: usize, is_json: bool) {
+fn put_kind(out: &mut Out, counts: &[usize; KINDS], k: usize, is_json: bool) {
     if KINDS <= k {
         return;
     }
@@ -137,16 +140,14 @@ fn put_kind(out: &mut [u8; OUT], counts: &[usize; KINDS], k: usize, is_json: boo
     tool_out::word(out, &words);
 }
 
-fn put_kinds(out: &mut [u8; OUT], counts: &[usize; KINDS], is_json: bool) {
-    let mut k: usize = 0;
-    while k < KINDS {
+fn put_kinds(out: &mut Out, counts: &[usize; KINDS], is_json: bool) {
+    for k in 0..KINDS {
         put_kind(out, counts, k, is_json);
-        k += 1;
     }
 }
 
 // The last line.
-fn put_counts(out: &mut [u8; OUT], counts: &[usize; KINDS], asked: Asked) {
+fn put_counts(out: &mut Out, counts: &[usize; KINDS], asked: Asked) {
     if asked.is_json {
         text(out, b"{\"files\":");
         number(out, asked.words);
@@ -161,11 +162,11 @@ fn put_counts(out: &mut [u8; OUT], counts: &[usize; KINDS], asked: Asked) {
 }
 
 // `casm check FILE..`.
-pub fn check(out: &mut [u8; OUT], asked: Asked) -> u8 {
+pub fn check(rt: &impl Host, out: &mut Out, asked: Asked) -> u8 {
     let mut bytes = tool_files::room();
     let mut list = tool_look::list::room();
     let mut counts = [0usize; KINDS];
-    check_all(out, asked, &mut bytes, &mut list, &mut counts);
+    check_all(rt, out, asked, &mut bytes, &mut list, &mut counts);
     put_counts(out, &counts, asked);
     status_of(&counts)
 }

@@ -5,7 +5,7 @@ use tool_json::put_editions;
 use tool_look::list::LIST;
 use tool_look::totals::{Totals, editions, totals_of};
 use tool_look::{DAMAGED, SOUND, Seen, body_of, file_place, verdict_words};
-use tool_out::{OUT, SHOWN, count, end_line, hex, number, text, text_as, word};
+use tool_out::{Out, SHOWN, count, end_line, hex, number, text, text_as, word};
 use tool_parts::put_json;
 use tool_words::names;
 
@@ -17,7 +17,7 @@ pub fn kind_words(kind: u8) -> [u8; 16] {
     *b"not read        "
 }
 
-fn put_sound(out: &mut [u8; OUT], totals: Totals) {
+fn put_sound(out: &mut Out, totals: Totals) {
     text(out, b"sound, ");
     count(out, totals.sound, b"group", b"groups");
     text(out, b", ");
@@ -25,7 +25,7 @@ fn put_sound(out: &mut [u8; OUT], totals: Totals) {
     word(out, &name);
 }
 
-fn put_damaged(out: &mut [u8; OUT], seen: Seen, totals: Totals) {
+fn put_damaged(out: &mut Out, seen: Seen, totals: Totals) {
     text(out, b"damaged: ");
     if seen.is_body {
         number(out, sum(totals.damaged, totals.loose));
@@ -40,7 +40,7 @@ fn put_damaged(out: &mut [u8; OUT], seen: Seen, totals: Totals) {
     hex(out, file_place(seen));
 }
 
-pub fn put_line(out: &mut [u8; OUT], name: &[u8], file: &[u8], list: &[usize; LIST], seen: Seen) {
+pub fn put_line(out: &mut Out, name: &[u8], file: &[u8], list: &[usize; LIST], seen: Seen) {
     let body = body_of(file, seen.tag, seen.length);
     let totals = totals_of(body, list, seen.count);
     text_as(out, SHOWN, name);
@@ -60,7 +60,7 @@ pub fn put_line(out: &mut [u8; OUT], name: &[u8], file: &[u8], list: &[usize; LI
     end_line(out);
 }
 
-fn put_begin(out: &mut [u8; OUT], name: &[u8], verdict: &[u8]) {
+fn put_begin(out: &mut Out, name: &[u8], verdict: &[u8]) {
     text(out, b"{\"file\":");
     put_json(out, name);
     text(out, b",\"verdict\":\"");
@@ -68,13 +68,7 @@ fn put_begin(out: &mut [u8; OUT], name: &[u8], verdict: &[u8]) {
     text(out, b"\",\"groups\":");
 }
 
-pub fn put_json_line(
-    out: &mut [u8; OUT],
-    name: &[u8],
-    file: &[u8],
-    list: &[usize; LIST],
-    seen: Seen,
-) {
+pub fn put_json_line(out: &mut Out, name: &[u8], file: &[u8], list: &[usize; LIST], seen: Seen) {
     let body = body_of(file, seen.tag, seen.length);
     let totals = totals_of(body, list, seen.count);
     let words = verdict_words(seen.verdict);
@@ -94,7 +88,7 @@ pub fn put_json_line(
 }
 
 // A file that was not read.
-pub fn put_unread(out: &mut [u8; OUT], name: &[u8], is_json: bool, outcome: u8) {
+pub fn put_unread(out: &mut Out, name: &[u8], is_json: bool, outcome: u8) {
     let kind = kind_words(4);
     if is_json {
         put_begin(out, name, &kind);

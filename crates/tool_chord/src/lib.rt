@@ -1,11 +1,12 @@
 // A chord, a note and a channel as musicians write them: F#m7, Eb-1, 11.
 #![tactic(auto)]
+
 pub mod note;
 pub mod wrong;
 
 pub use note::{parse_channel, parse_note};
 use tool_bytes::{byte_at, part, rest, sum};
-use tool_out::{OUT, trimmed_length};
+use tool_out::{Out, trimmed_length};
 use tool_words::masks::TYPES;
 use tool_words::{names, put_root};
 pub use wrong::{complain_channel, complain_chord, complain_note};
@@ -17,7 +18,7 @@ pub const NO_ROOT: u8 = 1;
 
 pub const NO_TYPE: u8 = 2;
 
-#[derive(Drop)]
+#[derive(Clone, Copy)]
 pub struct Chord {
     pub root: u8,
     pub kind: u8,
@@ -25,7 +26,7 @@ pub struct Chord {
 }
 
 // A letter and what stands behind it: half steps above the C below, plus 12 so that Cb has a number too, and how many bytes it has; 0 bytes where there is no letter.
-#[derive(Drop)]
+#[derive(Clone, Copy)]
 pub struct Letter {
     pub steps: usize,
     pub length: usize,
@@ -85,12 +86,10 @@ fn kind_of(text: &[u8]) -> usize {
     if text.len() == 0 {
         return 0;
     }
-    let mut k: usize = 0;
-    while k < 34 {
+    for k in 0..34usize {
         if is_kind(text, (k % 256) as u8) {
             return k;
         }
-        k += 1;
     }
     34
 }
@@ -118,7 +117,7 @@ pub fn parse_chord(text: &[u8]) -> Chord {
 }
 
 // A chord as it is written: Maj is left off.
-pub fn put_name(out: &mut [u8; OUT], root: u8, kind: u8) {
+pub fn put_name(out: &mut Out, root: u8, kind: u8) {
     put_root(out, root);
     if kind != 0 {
         tool_words::put_chord(out, kind);

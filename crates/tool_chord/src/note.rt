@@ -2,13 +2,13 @@
 use crate::letter_of;
 use tool_bytes::{byte_at, least, part, rest, sum};
 
-#[derive(Drop)]
+#[derive(Clone, Copy)]
 pub struct Note {
     pub note: u8,
     pub is_fine: bool,
 }
 
-#[derive(Drop)]
+#[derive(Clone, Copy)]
 pub struct Channel {
     pub channel: u8,
     pub is_fine: bool,
@@ -36,14 +36,12 @@ fn number_of(text: &[u8]) -> usize {
         return NONE;
     }
     let mut n: usize = 0;
-    let mut i: usize = 0;
-    while i < text.len() {
+    for i in 0..text.len() {
         let digit = digit_of(text[i]);
         if 9 < digit {
             return NONE;
         }
         n = with_digit(n, digit);
-        i += 1;
     }
     n
 }

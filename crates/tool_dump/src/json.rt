@@ -1,9 +1,9 @@
 // The same rows as JSON: each with its place in the file, its bytes in hex, and the number of the marked one in it.
 use crate::{Dump, is_shown, row_length, row_place, rows_of};
 use tool_bytes::{part, rest, sum};
-use tool_out::{OUT, PAIRS, byte, number, text, text_as};
+use tool_out::{Out, PAIRS, byte, number, text, text_as};
 
-fn put_marked(out: &mut [u8; OUT], dump: Dump, place: usize, n: usize) {
+fn put_marked(out: &mut Out, dump: Dump, place: usize, n: usize) {
     if dump.is_marked && place <= dump.mark && dump.mark < sum(place, n) {
         number(out, rest(dump.mark, place));
         return;
@@ -11,7 +11,7 @@ fn put_marked(out: &mut [u8; OUT], dump: Dump, place: usize, n: usize) {
     text(out, b"null");
 }
 
-fn put_row(out: &mut [u8; OUT], file: &[u8], dump: Dump, r: usize) {
+fn put_row(out: &mut Out, file: &[u8], dump: Dump, r: usize) {
     if !is_shown(dump, r) {
         return;
     }
@@ -29,13 +29,11 @@ fn put_row(out: &mut [u8; OUT], file: &[u8], dump: Dump, r: usize) {
     byte(out, b'}');
 }
 
-pub fn put_dump(out: &mut [u8; OUT], file: &[u8], dump: Dump) {
+pub fn put_dump(out: &mut Out, file: &[u8], dump: Dump) {
     let rows = rows_of(dump);
     byte(out, b'[');
-    let mut r: usize = 0;
-    while r < rows {
+    for r in 0..rows {
         put_row(out, file, dump, r);
-        r += 1;
     }
     byte(out, b']');
 }

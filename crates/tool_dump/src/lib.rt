@@ -1,12 +1,13 @@
 // Bytes in hex, in rows of 16 that begin where an entry does: its first rows, and the row of a marked byte with one before it and one behind.
 #![tactic(auto)]
+
 pub mod json;
 
 use tool_bytes::{byte_at, least, part, rest, sum};
-use tool_out::{HTML, OUT, PLAIN, byte, count, end_line, pair, text, text_as};
+use tool_out::{HTML, Out, PLAIN, byte, count, end_line, pair, text, text_as};
 
 // A dump: which bytes of a file, how wide, and the place of the byte that is marked, where one is.
-#[derive(Drop)]
+#[derive(Clone, Copy)]
 pub struct Dump {
     pub start: usize,
     pub length: usize,
@@ -48,7 +49,7 @@ pub fn row_length(dump: Dump, r: usize) -> usize {
 }
 
 // What stands before byte k of a line: a bracket around the marked one.
-fn put_before(out: &mut [u8; OUT], how: u8, k: usize, mark: usize, is_marked: bool) {
+fn put_before(out: &mut Out, how: u8, k: usize, mark: usize, is_marked: bool) {
     if is_marked && k == mark {
         if how == HTML {
             text(out, b"<mark>");
@@ -66,7 +67,7 @@ fn put_before(out: &mut [u8; OUT], how: u8, k: usize, mark: usize, is_marked: bo
     byte(out, b' ');
 }
 
-fn put_cell(out: &mut [u8; OUT], line: &[u8], k: usize) {
+fn put_cell(out: &mut Out, line: &[u8], k: usize) {
     if line.len() <= k {
         text(out, b"  ");
         return;
@@ -75,19 +76,10 @@ fn put_cell(out: &mut [u8; OUT], line: &[u8], k: usize) {
 }
 
 // The bytes of a line in hex, `across` of them where it is whole.
-fn put_cells(
-    out: &mut [u8; OUT],
-    how: u8,
-    line: &[u8],
-    across: usize,
-    mark: usize,
-    is_marked: bool,
-) {
-    let mut k: usize = 0;
-    while k < across {
+fn put_cells(out: &mut Out, how: u8, line: &[u8], across: usize, mark: usize, is_marked: bool) {
+    for k in 0..across {
         put_before(out, how, k, mark, is_marked);
         put_cell(out, line, k);
-        k += 1;
     }
     put_before(out, how, across, mark, is_marked);
 }
@@ -100,20 +92,18 @@ fn plain(b: u8) -> u8 {
 }
 
 // .. and as letters.
-fn put_letters(out: &mut [u8; OUT], how: u8, line: &[u8]) {
-    let mut k: usize = 0;
-    while k < line.len() {
+fn put_letters(out: &mut Out, how: u8, line: &[u8]) {
+    for k in 0..line.len() {
         put_letter(out, how, line[k]);
-        k += 1;
     }
 }
 
-fn put_letter(out: &mut [u8; OUT], how: u8, b: u8) {
+fn put_letter(out: &mut Out, how: u8, b: u8) {
     let letter = [plain(b)];
     text_as(out, how, &letter);
 }
 
-fn put_sign(out: &mut [u8; OUT], how: u8, is_marked: bool) {
+fn put_sign(out: &mut Out, how: u8, is_marked: bool) {
     if how == PLAIN {
         text(out, b"  ");
     }
@@ -125,7 +115,7 @@ fn put_sign(out: &mut [u8; OUT], how: u8, is_marked: bool) {
 }
 
 fn put_line(
-    out: &mut [u8; OUT],
+    out: &mut Out,
     how: u8,
     place: usize,
     line: &[u8],
@@ -144,19 +134,19 @@ fn put_line(
 }
 
 // Lines are ended for people, and in a page parted.
-fn part_lines(out: &mut [u8; OUT], how: u8, before: usize) {
+fn part_lines(out: &mut Out, how: u8, before: usize) {
     if how == HTML && 0 < before {
         end_line(out);
     }
 }
 
-fn end_of_line(out: &mut [u8; OUT], how: u8) {
+fn end_of_line(out: &mut Out, how: u8) {
     if how == PLAIN {
         end_line(out);
     }
 }
 
-fn put_gap(out: &mut [u8; OUT], how: u8) {
+fn put_gap(out: &mut Out, how: u8) {
     if how == PLAIN {
         text(out, b"  ");
     }
@@ -164,15 +154,7 @@ fn put_gap(out: &mut [u8; OUT], how: u8) {
 }
 
 // `across` bytes of row r from its byte k on, as a line; nothing where the row has no such byte.
-fn put_piece(
-    out: &mut [u8; OUT],
-    how: u8,
-    file: &[u8],
-    dump: Dump,
-    r: usize,
-    k: usize,
-    across: usize,
-) {
+fn put_piece(out: &mut Out, how: u8, file: &[u8], dump: Dump, r: usize, k: usize, across: usize) {
     let n = least(across, rest(row_length(dump, r), k));
     if n == 0 {
         return;
@@ -194,7 +176,7 @@ fn put_piece(
 
 // Row r where it is shown, and dots where those before it are not. Where the last shown one ended.
 fn put_row(
-    out: &mut [u8; OUT],
+    out: &mut Out,
     how: u8,
     file: &[u8],
     dump: Dump,
@@ -219,20 +201,11 @@ fn put_row(
 }
 
 // The dump in lines of `across` bytes, 16 or 8; behind it how many bytes more there are, where that is asked.
-pub fn put_dump(
-    out: &mut [u8; OUT],
-    how: u8,
-    file: &[u8],
-    dump: Dump,
-    across: usize,
-    is_counted: bool,
-) {
+pub fn put_dump(out: &mut Out, how: u8, file: &[u8], dump: Dump, across: usize, is_counted: bool) {
     let rows = rows_of(dump);
     let mut last = dump.start;
-    let mut r: usize = 0;
-    while r < rows {
+    for r in 0..rows {
         last = put_row(out, how, file, dump, r, across, last);
-        r += 1;
     }
     let more = rest(sum(dump.start, dump.length), last);
     if !is_counted || more == 0 {

@@ -1,5 +1,6 @@
 // `casm edit`: one channel of a part changed, in a copy of the file or in the file itself.
 #![tactic(auto)]
+
 pub mod target;
 
 use casm::bytes::record_of;
@@ -16,9 +17,9 @@ use tool_change::told::{count_changed, put_changes};
 use tool_change::{NEW, OLD, fill, record_bytes};
 use tool_edit_words::fields::set_fields;
 use tool_edit_words::{Asked, asked_from, complain_asked};
-use tool_ends::{CANNOT, DONE, begin, end};
+use tool_ends::{CANNOT, DONE, Host, begin, end};
 use tool_files::{FILE, contents};
-use tool_out::{OUT, PLAIN, SHOWN, count, end_line, number, text, text_as};
+use tool_out::{Out, PLAIN, SHOWN, count, end_line, number, text, text_as};
 use tool_reason::{cause_of_file, range};
 use tool_rows::row::{ROWS, byte_of, channel, is_second, room, voice};
 use tool_sought::seek;
@@ -50,7 +51,7 @@ fn chunk_of(is_second: bool) -> u8 {
     range::CTAB
 }
 
-fn put_chunk(out: &mut [u8; OUT], is_second: bool) {
+fn put_chunk(out: &mut Out, is_second: bool) {
     if is_second {
         text(out, b" of a Ctb2), allowed is ");
         return;
@@ -59,7 +60,7 @@ fn put_chunk(out: &mut [u8; OUT], is_second: bool) {
 }
 
 // The byte k of the new record that is out of its range.
-fn put_out_of_range(out: &mut [u8; OUT], rows: &[u8; ROWS], k: usize) {
+fn put_out_of_range(out: &mut Out, rows: &[u8; ROWS], k: usize) {
     let second = is_second(rows, NEW);
     put_field(out, second, k);
     text(out, b" is ");
@@ -71,9 +72,9 @@ fn put_out_of_range(out: &mut [u8; OUT], rows: &[u8; ROWS], k: usize) {
 }
 
 // Why the edit is refused.
-fn complain_edit(rows: &[u8; ROWS], file: &[u8], answered: Answered) -> u8 {
+fn complain_edit(rt: &impl Host, rows: &[u8; ROWS], file: &[u8], answered: Answered) -> u8 {
     let cause = cause_of_file(file, answered.number, answered.place);
-    let mut out = begin(b"edit");
+    let mut out = begin(rt, b"edit");
     text(&mut out, b"refusal ");
     number(&mut out, answered.number as usize);
     text(&mut out, b": ");
@@ -82,7 +83,7 @@ fn complain_edit(rows: &[u8; ROWS], file: &[u8], answered: Answered) -> u8 {
         text(&mut out, b": ");
         put_out_of_range(&mut out, rows, answered.place);
     }
-    end(&mut out);
+    end(rt, &mut out);
     CANNOT
 }
 
@@ -129,11 +130,18 @@ fn size_of(is_second: bool) -> usize {
 }
 
 // Finds the channel, and sets in a row what is asked for.
-fn prepare(rows: &mut [u8; ROWS], asked: Asked, path: &[u8], name: &[u8], file: &[u8]) -> u8 {
-    let mut given = io::buffer();
-    let n = os::arg(asked.channel, &mut given);
+fn prepare(
+    rt: &impl Host,
+    rows: &mut [u8; ROWS],
+    asked: Asked,
+    path: &[u8],
+    name: &[u8],
+    file: &[u8],
+) -> u8 {
+    let mut given = tool_ends::buffer();
+    let n = tool_ends::arg(rt, asked.channel, &mut given);
     let m = given_length(asked.channel, n);
-    let sought = seek(b"edit", path, file, name, part(&given, 0, m));
+    let sought = seek(rt, b"edit", path, file, name, part(&given, 0, m));
     if !sought.is_found {
         return CANNOT;
     }
@@ -142,7 +150,7 @@ fn prepare(rows: &mut [u8; ROWS], asked: Asked, path: &[u8], name: &[u8], file: 
         part(file, sought.at, size_of(sought.is_second)),
         sought.is_second,
     );
-    set_fields(rows, asked)
+    set_fields(rt, rows, asked)
 }
 
 // Argument 0 is the program's own name: where an argument is missing, nothing is given.
@@ -154,7 +162,7 @@ fn given_length(i: usize, n: usize) -> usize {
 }
 
 // What changed.
-fn put_told(out: &mut [u8; OUT], name: &[u8], rows: &[u8; ROWS]) {
+fn put_told(out: &mut Out, name: &[u8], rows: &[u8; ROWS]) {
     text_as(out, SHOWN, name);
     text(out, b", ch ");
     number(out, channel(rows, OLD));
@@ -171,7 +179,7 @@ fn put_told(out: &mut [u8; OUT], name: &[u8], rows: &[u8; ROWS]) {
     put_changes(out, rows);
 }
 
-fn put_written(out: &mut [u8; OUT], target: &[u8], length: usize) {
+fn put_written(out: &mut Out, target: &[u8], length: usize) {
     text_as(out, SHOWN, target);
     text(out, b": ");
     count(out, length, b"byte", b"bytes");
@@ -181,7 +189,8 @@ fn put_written(out: &mut [u8; OUT], target: &[u8], length: usize) {
 
 // The edit itself, and then the saving: nothing is written unless the edit is accepted.
 fn edit_ready(
-    out: &mut [u8; OUT],
+    rt: &impl Host,
+    out: &mut Out,
     path: &[u8],
     target: &[u8],
     name: &[u8],
@@ -199,9 +208,9 @@ fn edit_ready(
         over,
     );
     if answered.number != 0 {
-        return complain_edit(rows, contents(bytes, length), answered);
+        return complain_edit(rt, rows, contents(bytes, length), answered);
     }
-    let status = save_as(path, target, contents(bytes, length));
+    let status = save_as(rt, path, target, contents(bytes, length));
     if status != DONE {
         return status;
     }
@@ -210,22 +219,30 @@ fn edit_ready(
     DONE
 }
 
-fn edit_to(out: &mut [u8; OUT], asked: Asked, path: &[u8], target: &[u8], name: &[u8]) -> u8 {
+fn edit_to(
+    rt: &impl Host,
+    out: &mut Out,
+    asked: Asked,
+    path: &[u8],
+    target: &[u8],
+    name: &[u8],
+) -> u8 {
     let mut bytes = tool_files::room();
     let mut length: usize = 0;
-    if !is_read(path, &mut bytes, &mut length) {
+    if !is_read(rt, path, &mut bytes, &mut length) {
         return CANNOT;
     }
     let mut rows = room();
-    let status = prepare(&mut rows, asked, path, name, contents(&bytes, length));
+    let status = prepare(rt, &mut rows, asked, path, name, contents(&bytes, length));
     if status != DONE {
         return status;
     }
-    let wrong = target_wrong(path, target, asked.is_in_place);
+    let wrong = target_wrong(rt, path, target, asked.is_in_place);
     if wrong != DONE {
         return wrong;
     }
     edit_ready(
+        rt,
         out,
         path,
         target,
@@ -246,18 +263,18 @@ fn target_of(asked: Asked) -> usize {
 }
 
 // `casm edit FILE PART CHANNEL FIELD=VALUE.. -o OUT`, the arguments from number `first` on.
-pub fn edit(out: &mut [u8; OUT], first: usize) -> u8 {
-    let asked = asked_from(first);
-    let wrong = complain_asked(asked);
+pub fn edit(rt: &impl Host, out: &mut Out, first: usize) -> u8 {
+    let asked = asked_from(rt, first);
+    let wrong = complain_asked(rt, asked);
     if wrong != DONE {
         return wrong;
     }
-    let mut path = io::buffer();
-    let mut target = io::buffer();
-    let mut name = io::buffer();
-    let n = os::arg(asked.file, &mut path);
-    let m = os::arg(target_of(asked), &mut target);
-    let k = os::arg(asked.part, &mut name);
+    let mut path = tool_ends::buffer();
+    let mut target = tool_ends::buffer();
+    let mut name = tool_ends::buffer();
+    let n = tool_ends::arg(rt, asked.file, &mut path);
+    let m = tool_ends::arg(rt, target_of(asked), &mut target);
+    let k = tool_ends::arg(rt, asked.part, &mut name);
     let j = given_length(asked.part, k);
-    edit_to(out, asked, &path[..n], &target[..m], part(&name, 0, j))
+    edit_to(rt, out, asked, &path[..n], &target[..m], part(&name, 0, j))
 }

@@ -1,12 +1,13 @@
 // The arguments of `casm edit`: the file, the part, the channel, the fields with their values, and the options.
 #![tactic(auto)]
+
 pub mod fields;
 
 use tool_bytes::{byte_at, sum};
-use tool_ends::{DONE, complain};
+use tool_ends::{DONE, Host, complain};
 
 // Which argument is which, 0 where it is missing, and how many are no options.
-#[derive(Drop)]
+#[derive(Clone, Copy)]
 pub struct Asked {
     pub file: usize,
     pub part: usize,
@@ -46,9 +47,9 @@ const IN_PLACE: u8 = 3;
 
 const UNKNOWN: u8 = 4;
 
-fn kind_of(i: usize) -> u8 {
-    let mut given = io::buffer();
-    let n = os::arg(i, &mut given);
+fn kind_of(rt: &impl Host, i: usize) -> u8 {
+    let mut given = tool_ends::buffer();
+    let n = tool_ends::arg(rt, i, &mut given);
     let word = &given[..n];
     if byte_at(word, 0) != b'-' {
         return WORD;
@@ -112,11 +113,11 @@ fn with_option(asked: Asked, kind: u8, i: usize) -> Asked {
     a
 }
 
-fn with_argument(asked: Asked, i: usize) -> Asked {
+fn with_argument(rt: &impl Host, asked: Asked, i: usize) -> Asked {
     if asked.is_target_next {
         return with_target(asked, i);
     }
-    let kind = kind_of(i);
+    let kind = kind_of(rt, i);
     if kind == WORD {
         return with_word(asked, i);
     }
@@ -127,29 +128,28 @@ fn with_argument(asked: Asked, i: usize) -> Asked {
 }
 
 // The arguments from number `from` on.
-pub fn asked_from(from: usize) -> Asked {
-    let end = os::arg_count();
+pub fn asked_from(rt: &impl Host, from: usize) -> Asked {
+    let end = tool_ends::arg_count(rt);
     let mut asked = nothing();
-    let mut i = from;
-    while i < end {
-        asked = with_argument(asked, i);
-        i += 1;
+    for i in from..end {
+        asked = with_argument(rt, asked, i);
     }
     asked
 }
 
 // Whether argument i is a field with its value: no option, and none of the others.
-pub fn is_field(asked: Asked, i: usize) -> bool {
+pub fn is_field(rt: &impl Host, asked: Asked, i: usize) -> bool {
     if i <= asked.channel || i == asked.target {
         return false;
     }
-    kind_of(i) == WORD
+    kind_of(rt, i) == WORD
 }
 
 // What is missing or too much; a part and a channel that are missing are told of where the file is known.
-pub fn complain_asked(asked: Asked) -> u8 {
+pub fn complain_asked(rt: &impl Host, asked: Asked) -> u8 {
     if asked.unknown != 0 {
         return tool_asked::complain_option(
+            rt,
             b"edit",
             asked.unknown,
             b"-o OUT, --override or --in-place",
@@ -157,18 +157,20 @@ pub fn complain_asked(asked: Asked) -> u8 {
     }
     if asked.file == 0 {
         return complain(
+            rt,
             b"edit",
             b"no FILE; expected casm edit FILE PART CHANNEL FIELD=VALUE.. -o OUT",
         );
     }
     if asked.is_twice {
-        return complain(b"edit", b"-o is said twice; expected one OUT");
+        return complain(rt, b"edit", b"-o is said twice; expected one OUT");
     }
     if asked.is_target_next {
-        return complain(b"edit", b"no OUT behind -o");
+        return complain(rt, b"edit", b"no OUT behind -o");
     }
     if asked.target == 0 && !asked.is_in_place {
         return complain(
+            rt,
             b"edit",
             b"no OUT; expected -o OUT, or --in-place to change FILE itself",
         );

@@ -1,5 +1,6 @@
 // What the report says of each entry of a body: a sound group in full, any other with its reason, its place and its bytes.
 #![tactic(auto)]
+
 use casm::read::group_text;
 use tool_bytes::sum;
 use tool_dump::{Dump, put_dump};
@@ -9,7 +10,7 @@ use tool_group::sets::put_sets;
 use tool_look::list::{LIST, entry, is_loose, is_sound, length_of, place_of};
 use tool_look::totals::edition_of;
 use tool_look::{SOUND, Seen, body_place};
-use tool_out::{OUT, PLAIN, SHOWN, clear, count, end_line, fill, held, number, place, text, word};
+use tool_out::{Out, PLAIN, SHOWN, clear, count, end_line, fill, held, number, place, text, word};
 use tool_parts::put_parts;
 use tool_reason::detail::{is_more, put_detail};
 use tool_reason::{Cause, cause_of_entry};
@@ -21,7 +22,7 @@ use tool_words::names;
 use tool_words::reasons::put_reason;
 
 // A place in the file, and in the body that begins at `base`.
-fn put_places(out: &mut [u8; OUT], base: usize, at: usize) {
+fn put_places(out: &mut Out, base: usize, at: usize) {
     place(out, sum(base, at));
     text(out, b" in the file, ");
     place(out, at);
@@ -29,13 +30,7 @@ fn put_places(out: &mut [u8; OUT], base: usize, at: usize) {
 }
 
 // `Refusal 2: ..`, and what there is to say of it, each wrapped behind an indent.
-pub fn put_refusal(
-    out: &mut [u8; OUT],
-    words: &mut [u8; OUT],
-    s: &[u8],
-    cause: Cause,
-    indent: usize,
-) {
+pub fn put_refusal(out: &mut Out, words: &mut Out, s: &[u8], cause: Cause, indent: usize) {
     clear(words);
     text(words, b"Refusal ");
     number(words, cause.number as usize);
@@ -53,7 +48,7 @@ pub fn put_refusal(
 }
 
 // Where an entry stands: its length and its places.
-fn put_where(out: &mut [u8; OUT], base: usize, list: &[usize; LIST], k: usize) {
+fn put_where(out: &mut Out, base: usize, list: &[usize; LIST], k: usize) {
     text(out, b"  ");
     count(out, length_of(list, k), b"byte", b"bytes");
     text(out, b" at ");
@@ -63,8 +58,8 @@ fn put_where(out: &mut [u8; OUT], base: usize, list: &[usize; LIST], k: usize) {
 
 // A damaged entry: why, where, and its bytes with that one marked.
 fn put_damaged(
-    out: &mut [u8; OUT],
-    words: &mut [u8; OUT],
+    out: &mut Out,
+    words: &mut Out,
     file: &[u8],
     base: usize,
     body: &[u8],
@@ -91,14 +86,7 @@ fn put_damaged(
     put_dump(out, PLAIN, file, dump, 16, true);
 }
 
-fn put_loose(
-    out: &mut [u8; OUT],
-    file: &[u8],
-    base: usize,
-    body: &[u8],
-    list: &[usize; LIST],
-    k: usize,
-) {
+fn put_loose(out: &mut Out, file: &[u8], base: usize, body: &[u8], list: &[usize; LIST], k: usize) {
     let cause = cause_of_entry(body, list, k);
     text(out, b"  Refusal ");
     number(out, cause.number as usize);
@@ -115,13 +103,7 @@ fn put_loose(
 }
 
 // The tables of a group's channels.
-fn put_tables(
-    out: &mut [u8; OUT],
-    words: &mut [u8; OUT],
-    rows: &[u8; ROWS],
-    channels: usize,
-    edition: u8,
-) {
+fn put_tables(out: &mut Out, words: &mut Out, rows: &[u8; ROWS], channels: usize, edition: u8) {
     put_when(out, words, rows, channels);
     text(out, b"\n  How notes are placed\n");
     if edition == 1 {
@@ -132,7 +114,7 @@ fn put_tables(
 }
 
 // `Group 1 of 5: ` or `Entry 2 of 4, sound: `, and the part names wrapped behind it.
-fn put_title(out: &mut [u8; OUT], words: &mut [u8; OUT], seen: Seen, k: usize, group: &[u8]) {
+fn put_title(out: &mut Out, words: &mut Out, seen: Seen, k: usize, group: &[u8]) {
     clear(words);
     if seen.verdict == SOUND {
         text(words, b"Group ");
@@ -154,8 +136,8 @@ fn put_title(out: &mut [u8; OUT], words: &mut [u8; OUT], seen: Seen, k: usize, g
 }
 
 fn put_sound(
-    out: &mut [u8; OUT],
-    words: &mut [u8; OUT],
+    out: &mut Out,
+    words: &mut Out,
     rows: &mut [u8; ROWS],
     seen: Seen,
     group: &[u8],
@@ -179,7 +161,7 @@ fn put_sound(
     }
 }
 
-fn put_other_title(out: &mut [u8; OUT], seen: Seen, k: usize, is_loose: bool) {
+fn put_other_title(out: &mut Out, seen: Seen, k: usize, is_loose: bool) {
     text(out, b"Entry ");
     number(out, sum(k, 1));
     text(out, b" of ");
@@ -193,8 +175,8 @@ fn put_other_title(out: &mut [u8; OUT], seen: Seen, k: usize, is_loose: bool) {
 
 // Entry k, behind a line.
 pub fn put_entry(
-    out: &mut [u8; OUT],
-    words: &mut [u8; OUT],
+    out: &mut Out,
+    words: &mut Out,
     rows: &mut [u8; ROWS],
     file: &[u8],
     body: &[u8],

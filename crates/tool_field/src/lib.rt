@@ -1,7 +1,8 @@
 // The fields of a record as an edit names them, and where their bytes stand.
 #![tactic(auto)]
+
 use tool_bytes::{part, sum};
-use tool_out::{OUT, byte, text, trimmed_length, word};
+use tool_out::{Out, byte, text, trimmed_length, word};
 use tool_value::{
     CHORD, CHORDS, DESTINATION, FIRST_RULE, FIRST_TABLE, GUITAR_TABLE, NOTE, RETRIGGER, ROOT,
     ROOTS, RULE, SWITCH, TABLE, VOICE,
@@ -55,7 +56,7 @@ pub const SECOND_TABLE: u8 = 17;
 pub const ALL_SETS: u8 = 3;
 
 // A field, and of which set.
-#[derive(Drop)]
+#[derive(Clone, Copy)]
 pub struct Field {
     pub field: u8,
     pub set: u8,
@@ -85,12 +86,10 @@ fn is_called(field: u8, given: &[u8]) -> bool {
 
 // The field that is called so.
 fn called(given: &[u8]) -> u8 {
-    let mut k: usize = 0;
-    while k < FIELDS {
+    for k in 0..FIELDS {
         if is_called((k % 256) as u8, given) {
             return (k % 256) as u8;
         }
-        k += 1;
     }
     NO_FIELD
 }
@@ -208,7 +207,7 @@ pub fn kind_of(is_second: bool, field: u8, rule: u8) -> u8 {
 }
 
 // What a field is called, with its set before it where it is of one of three.
-pub fn put_called(out: &mut [u8; OUT], field: u8, set: u8) {
+pub fn put_called(out: &mut Out, field: u8, set: u8) {
     if FIRST_OF_SET <= field && set < ALL_SETS {
         let name = names::set(set);
         word(out, &name);
@@ -218,22 +217,20 @@ pub fn put_called(out: &mut [u8; OUT], field: u8, set: u8) {
     word(out, &name);
 }
 
-fn put_spaced(out: &mut [u8; OUT], name: &[u8]) {
+fn put_spaced(out: &mut Out, name: &[u8]) {
     let n = trimmed_length(name);
-    let mut i: usize = 0;
-    while i < n {
+    for i in 0..n {
         let b = tool_bytes::byte_at(name, i);
         if b == b'-' {
             byte(out, b' ');
         } else {
             byte(out, b);
         }
-        i += 1;
     }
 }
 
 // The same for a table: `high key`, `low: high key`.
-pub fn put_label(out: &mut [u8; OUT], field: u8, set: u8) {
+pub fn put_label(out: &mut Out, field: u8, set: u8) {
     if FIRST_OF_SET <= field && set < ALL_SETS {
         let name = names::set(set);
         word(out, &name);
@@ -244,20 +241,18 @@ pub fn put_label(out: &mut [u8; OUT], field: u8, set: u8) {
 }
 
 // The names from one field up to another.
-fn put_names(out: &mut [u8; OUT], from: usize, end: usize) {
-    let mut k = from;
-    while k < end {
+fn put_names(out: &mut Out, from: usize, end: usize) {
+    for k in from..end {
         if from < k {
             text(out, b", ");
         }
         let name = name_of((k % 256) as u8);
         word(out, &name);
-        k += 1;
     }
 }
 
 // The fields that a record of an edition has.
-pub fn put_fields(out: &mut [u8; OUT], is_second: bool) {
+pub fn put_fields(out: &mut Out, is_second: bool) {
     if !is_second {
         put_names(out, 0, 8);
         text(out, b", ");

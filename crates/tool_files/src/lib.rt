@@ -1,6 +1,12 @@
 // A named file, read whole into lent memory.
 #![tactic(auto)]
+
+use std::fs::open;
+use std::io;
+use std::io::{ErrorKind, Read};
+use std::rt::Files;
 use tool_bytes::part;
+use tool_stat::{known, path_text};
 
 // A file of at most 1,048,576 bytes; one byte more shows that there is more.
 pub const FILE: usize = 1048577;
@@ -28,7 +34,7 @@ pub const SPECIAL: u8 = 7;
 
 pub const LONG_NAME: u8 = 8;
 
-#[derive(Drop)]
+#[derive(Clone, Copy)]
 pub struct Reading {
     pub outcome: u8,
     pub length: usize,
@@ -42,90 +48,92 @@ fn failed(outcome: u8) -> Reading {
 }
 
 // What an error of a call says of the file.
-fn outcome_of(error: i32) -> u8 {
-    if error == libc::ENOENT || error == libc::ENOTDIR || error == libc::EINVAL {
-        return MISSING;
+fn outcome_of(kind: ErrorKind) -> u8 {
+    match kind {
+        ErrorKind::NotFound | ErrorKind::NotADirectory | ErrorKind::InvalidInput => MISSING,
+        ErrorKind::PermissionDenied => FORBIDDEN,
+        ErrorKind::IsADirectory => DIRECTORY,
+        ErrorKind::InvalidFilename => LONG_NAME,
+        _ => UNREADABLE,
     }
-    if error == libc::EACCES {
-        return FORBIDDEN;
-    }
-    if error == libc::EISDIR {
-        return DIRECTORY;
-    }
-    if error == libc::ENAMETOOLONG {
-        return LONG_NAME;
-    }
-    UNREADABLE
 }
 
-// Reads once more, past what was read: nothing comes at a file's end, and a read that failed before fails again and says why.
-fn outcome_at_end(fd: i32) -> u8 {
-    let mut more = [0u8; 1];
-    let got = libc::read(fd, &mut more);
-    if got < 0 {
-        return outcome_of(os::errno());
+// Reads until the memory is full or the file ends, and returns how many bytes it put at its start.
+fn fill<F: Read>(file: &mut F, bytes: &mut [u8]) -> io::Result<usize> {
+    let mut done = 0;
+    for _ in 0..u64::MAX {
+        if bytes.len() <= done {
+            break;
+        }
+        match file.read(&mut bytes[done..]) {
+            Ok(0) => break,
+            Ok(n) => done += n,
+            Err(e) => {
+                if e.kind() != ErrorKind::Interrupted {
+                    return Err(e);
+                }
+            }
+        }
     }
-    if got > 0 {
-        return UNREADABLE;
-    }
-    READ
+    Ok(done)
 }
 
-fn read_open(fd: i32, bytes: &mut [u8; FILE]) -> Reading {
-    let s: &mut [u8] = bytes;
-    let count = io::read_full(fd, s);
-    if FILE <= count {
-        return failed(TOO_LARGE);
-    }
-    let outcome = outcome_at_end(fd);
-    if outcome != READ {
-        return failed(outcome);
-    }
-    if count == 0 {
-        return failed(EMPTY);
-    }
-    Reading {
-        outcome: READ,
-        length: count,
+fn read_open<F: Read>(file: &mut F, bytes: &mut [u8; FILE]) -> Reading {
+    match fill(file, bytes) {
+        Ok(0) => failed(EMPTY),
+        Ok(FILE) => failed(TOO_LARGE),
+        Ok(length) => Reading {
+            outcome: READ,
+            length,
+        },
+        Err(e) => failed(outcome_of(e.kind())),
     }
 }
+
+// The longest path that C can be handed, with the zero behind it.
+const PATH_MAX: usize = 4096;
+
+// The kinds of a file that its mode names.
+const KIND: u32 = 0o10000;
+
+const REGULAR: u32 = 0o10;
+
+const FOLDER: u32 = 0o4;
 
 // What the kind of a file says, before it is opened: a pipe would be waited for.
 fn outcome_of_kind(mode: u32) -> u8 {
-    let kind = mode / 0o10000;
-    if kind == libc::S_IFREG / 0o10000 {
-        return READ;
+    match mode / KIND {
+        REGULAR => READ,
+        FOLDER => DIRECTORY,
+        _ => SPECIAL,
     }
-    if kind == libc::S_IFDIR / 0o10000 {
-        return DIRECTORY;
-    }
-    SPECIAL
 }
 
-fn outcome_before(path: &[u8]) -> u8 {
-    if libc::PATH_MAX <= path.len() {
+fn outcome_before(rt: &impl Files, path: &[u8]) -> u8 {
+    if PATH_MAX <= path.len() {
         return LONG_NAME;
     }
-    let known = tool_stat::known(path);
-    if !known.is_there {
-        return outcome_of(os::errno());
+    match known(rt, path) {
+        Ok(file) => outcome_of_kind(file.mode),
+        Err(e) => outcome_of(e.kind()),
     }
-    outcome_of_kind(known.mode)
 }
 
-// Reads the file that a path names. The descriptor is closed before it answers.
-pub fn read_file(path: &[u8], bytes: &mut [u8; FILE]) -> Reading {
-    let outcome = outcome_before(path);
+fn read_named(rt: &impl Files, path: &[u8], bytes: &mut [u8; FILE]) -> io::Result<Reading> {
+    let mut file = open(rt, path_text(path)?)?;
+    Ok(read_open(&mut file, bytes))
+}
+
+// Reads the file that a path names. The file is closed before it answers.
+pub fn read_file(rt: &impl Files, path: &[u8], bytes: &mut [u8; FILE]) -> Reading {
+    let outcome = outcome_before(rt, path);
     if outcome != READ {
         return failed(outcome);
     }
-    let fd = os::open_read(path);
-    if fd < 0 {
-        return failed(outcome_of(os::errno()));
+    match read_named(rt, path, bytes) {
+        Ok(reading) => reading,
+        Err(e) => failed(outcome_of(e.kind())),
     }
-    let reading = read_open(fd, bytes);
-    libc::close(fd);
-    reading
 }
 
 // The bytes that were read.

@@ -1,14 +1,14 @@
 // How notes are placed by the channels of a group of the first edition: one set a channel, and the second table of a Cntt in a line of its own.
 use crate::FIRST_RIGHT;
 use tool_bytes::sum;
-use tool_out::{OUT, clear, end_line, fill, number, text, word};
+use tool_out::{Out, clear, end_line, fill, number, text, word};
 use tool_rows::row;
 use tool_rows::row::{ROWS, byte_of, channel};
 use tool_table::row::put_row;
 use tool_table::{COLUMNS, column_place, limit_all, measure, next_cell};
 use tool_words::{names, put_notes, put_root, put_source, put_table};
 
-fn placed_head(cells: &mut [u8; OUT]) {
+fn placed_head(cells: &mut Out) {
     clear(cells);
     text(
         cells,
@@ -17,7 +17,7 @@ fn placed_head(cells: &mut [u8; OUT]) {
 }
 
 // The cells of a set behind its table: high key, notes and retrigger; its six bytes begin at byte i of row k.
-pub fn put_limits(cells: &mut [u8; OUT], rows: &[u8; ROWS], k: usize, i: usize) {
+pub fn put_limits(cells: &mut Out, rows: &[u8; ROWS], k: usize, i: usize) {
     next_cell(cells);
     put_root(cells, byte_of(rows, k, sum(i, 2)));
     next_cell(cells);
@@ -31,7 +31,7 @@ pub fn put_limits(cells: &mut [u8; OUT], rows: &[u8; ROWS], k: usize, i: usize) 
     word(cells, &name);
 }
 
-fn placed_row(cells: &mut [u8; OUT], rows: &[u8; ROWS], k: usize) {
+fn placed_row(cells: &mut Out, rows: &[u8; ROWS], k: usize) {
     clear(cells);
     number(cells, channel(rows, k));
     next_cell(cells);
@@ -45,23 +45,16 @@ fn placed_row(cells: &mut [u8; OUT], rows: &[u8; ROWS], k: usize) {
     put_limits(cells, rows, k, 20);
 }
 
-fn measure_placed(
-    widths: &mut [usize; COLUMNS],
-    cells: &mut [u8; OUT],
-    rows: &[u8; ROWS],
-    count: usize,
-) {
+fn measure_placed(widths: &mut [usize; COLUMNS], cells: &mut Out, rows: &[u8; ROWS], count: usize) {
     placed_head(cells);
     measure(widths, cells);
-    let mut k: usize = 0;
-    while k < count {
+    for k in 0..count {
         placed_row(cells, rows, k);
         measure(widths, cells);
-        k += 1;
     }
 }
 
-fn put_second(out: &mut [u8; OUT], rows: &[u8; ROWS], k: usize, at: usize) {
+fn put_second(out: &mut Out, rows: &[u8; ROWS], k: usize, at: usize) {
     if byte_of(rows, k, row::HAS_SECOND) == 0 {
         return;
     }
@@ -72,23 +65,21 @@ fn put_second(out: &mut [u8; OUT], rows: &[u8; ROWS], k: usize, at: usize) {
 }
 
 fn put_channels(
-    out: &mut [u8; OUT],
-    cells: &mut [u8; OUT],
+    out: &mut Out,
+    cells: &mut Out,
     widths: &[usize; COLUMNS],
     rows: &[u8; ROWS],
     count: usize,
     at: usize,
 ) {
-    let mut k: usize = 0;
-    while k < count {
+    for k in 0..count {
         placed_row(cells, rows, k);
         put_row(out, cells, widths, 2, FIRST_RIGHT);
         put_second(out, rows, k, at);
-        k += 1;
     }
 }
 
-pub fn put_placed(out: &mut [u8; OUT], cells: &mut [u8; OUT], rows: &[u8; ROWS], count: usize) {
+pub fn put_placed(out: &mut Out, cells: &mut Out, rows: &[u8; ROWS], count: usize) {
     let mut widths = [0usize; COLUMNS];
     measure_placed(&mut widths, cells, rows, count);
     limit_all(&mut widths, [2, 10, 10, 14, 8, 17, 11, 0], 2, 6);

@@ -1,7 +1,7 @@
 // How notes are placed by the channels of a group of the second edition: a line a channel, and one a set, or one for all where the three are the same.
 use crate::placed::put_limits;
 use tool_bytes::sum;
-use tool_out::{OUT, byte, clear, end_line, fill, number, pair, text, word};
+use tool_out::{Out, byte, clear, end_line, fill, number, pair, text, word};
 use tool_rows::row::{ROWS, byte_of, channel, is_one_set, set_place};
 use tool_table::cut::put_wrapped;
 use tool_table::row::put_row;
@@ -10,13 +10,13 @@ use tool_words::{names, put_notes, put_source, put_table};
 
 const NO_RIGHT: [bool; COLUMNS] = [false; COLUMNS];
 
-fn sets_head(cells: &mut [u8; OUT]) {
+fn sets_head(cells: &mut Out) {
     clear(cells);
     text(cells, b"set\0rule\0table\0high key\0notes\0retrigger");
 }
 
 // Set number `set` of channel k.
-fn set_row(cells: &mut [u8; OUT], rows: &[u8; ROWS], k: usize, set: usize) {
+fn set_row(cells: &mut Out, rows: &[u8; ROWS], k: usize, set: usize) {
     clear(cells);
     if is_one_set(rows, k) {
         text(cells, b"all");
@@ -42,49 +42,33 @@ fn lines_of(rows: &[u8; ROWS], k: usize) -> usize {
     3
 }
 
-fn measure_channel(
-    widths: &mut [usize; COLUMNS],
-    cells: &mut [u8; OUT],
-    rows: &[u8; ROWS],
-    k: usize,
-) {
+fn measure_channel(widths: &mut [usize; COLUMNS], cells: &mut Out, rows: &[u8; ROWS], k: usize) {
     let count = lines_of(rows, k);
-    let mut set: usize = 0;
-    while set < count {
+    for set in 0..count {
         set_row(cells, rows, k, set);
         measure(widths, cells);
-        set += 1;
     }
 }
 
-fn measure_sets(
-    widths: &mut [usize; COLUMNS],
-    cells: &mut [u8; OUT],
-    rows: &[u8; ROWS],
-    count: usize,
-) {
+fn measure_sets(widths: &mut [usize; COLUMNS], cells: &mut Out, rows: &[u8; ROWS], count: usize) {
     sets_head(cells);
     measure(widths, cells);
-    let mut k: usize = 0;
-    while k < count {
+    for k in 0..count {
         measure_channel(widths, cells, rows, k);
-        k += 1;
     }
 }
 
 // Bytes 40-46, which are unexplained, as they stand.
-fn put_tail(out: &mut [u8; OUT], rows: &[u8; ROWS], k: usize) {
+fn put_tail(out: &mut Out, rows: &[u8; ROWS], k: usize) {
     text(out, b", bytes 40-46");
-    let mut i: usize = 40;
-    while i < 47 {
+    for i in 40..47 {
         byte(out, b' ');
         pair(out, byte_of(rows, k, i));
-        i += 1;
     }
     end_line(out);
 }
 
-fn put_channel_head(out: &mut [u8; OUT], rows: &[u8; ROWS], k: usize) {
+fn put_channel_head(out: &mut Out, rows: &[u8; ROWS], k: usize) {
     text(out, b"  ch ");
     number(out, channel(rows, k));
     text(out, b": source ");
@@ -95,23 +79,21 @@ fn put_channel_head(out: &mut [u8; OUT], rows: &[u8; ROWS], k: usize) {
 }
 
 fn put_channel(
-    out: &mut [u8; OUT],
-    cells: &mut [u8; OUT],
+    out: &mut Out,
+    cells: &mut Out,
     widths: &[usize; COLUMNS],
     rows: &[u8; ROWS],
     k: usize,
 ) {
     put_channel_head(out, rows, k);
     let count = lines_of(rows, k);
-    let mut set: usize = 0;
-    while set < count {
+    for set in 0..count {
         set_row(cells, rows, k, set);
         put_row(out, cells, widths, 4, NO_RIGHT);
-        set += 1;
     }
 }
 
-fn put_meaning(out: &mut [u8; OUT], cells: &mut [u8; OUT]) {
+fn put_meaning(out: &mut Out, cells: &mut Out) {
     clear(cells);
     text(
         cells,
@@ -121,16 +103,14 @@ fn put_meaning(out: &mut [u8; OUT], cells: &mut [u8; OUT]) {
     put_wrapped(out, cells, 2, false);
 }
 
-pub fn put_sets(out: &mut [u8; OUT], cells: &mut [u8; OUT], rows: &[u8; ROWS], count: usize) {
+pub fn put_sets(out: &mut Out, cells: &mut Out, rows: &[u8; ROWS], count: usize) {
     let mut widths = [0usize; COLUMNS];
     put_meaning(out, cells);
     measure_sets(&mut widths, cells, rows, count);
     limit_all(&mut widths, [6, 10, 26, 8, 17, 19, 0, 0], 4, 8);
     sets_head(cells);
     put_row(out, cells, &widths, 4, NO_RIGHT);
-    let mut k: usize = 0;
-    while k < count {
+    for k in 0..count {
         put_channel(out, cells, &widths, rows, k);
-        k += 1;
     }
 }

@@ -1,6 +1,7 @@
 // The help: each command in a line, with an example each.
 #![tactic(auto)]
-use tool_out::{OUT, end_line, word};
+
+use tool_out::{Out, end_line, word};
 
 const LINES: [[u8; 80]; 26] = [
     *b"casm tells what the CASM section of a style file holds.                         ",
@@ -39,16 +40,14 @@ fn line_of(k: usize) -> [u8; 80] {
     lines[0]
 }
 
-fn put_line(out: &mut [u8; OUT], k: usize) {
+fn put_line(out: &mut Out, k: usize) {
     let line = line_of(k);
     word(out, &line);
     end_line(out);
 }
 
-pub fn put_help(out: &mut [u8; OUT]) {
-    let mut k: usize = 0;
-    while k < 26 {
+pub fn put_help(out: &mut Out) {
+    for k in 0..26 {
         put_line(out, k);
-        k += 1;
     }
 }

@@ -3,26 +3,24 @@ use crate::put::{put_flag, put_name, put_null, put_number, put_words};
 use casm::read::find_channel;
 use layout::record::SourceChannel;
 use tool_bytes::sum;
-use tool_out::{JSON, OUT, PAIRS, byte, clear, number, text, text_as, word};
+use tool_out::{JSON, Out, PAIRS, byte, clear, number, text, text_as, word};
 use tool_rows::row;
 use tool_rows::row::{ROWS, byte_of, bytes, channel, chord_mask, is_second, root_mask, voice};
 use tool_words::masks::{is_held, put_mask};
 use tool_words::{masks, put_chord, put_destination_name, put_notes, put_root, put_voice};
 
 // The names of those that a mask of so many bits holds.
-fn put_held(out: &mut [u8; OUT], mask: usize, count: usize) {
+fn put_held(out: &mut Out, mask: usize, count: usize) {
     let mut before: usize = 0;
-    let mut k: usize = 0;
-    while k < count {
+    for k in 0..count {
         if is_held(mask, k) {
             put_one(out, count, k, before);
             before = sum(before, 1);
         }
-        k += 1;
     }
 }
 
-fn put_one(out: &mut [u8; OUT], count: usize, k: usize, before: usize) {
+fn put_one(out: &mut Out, count: usize, k: usize, before: usize) {
     if 0 < before {
         byte(out, b',');
     }
@@ -37,8 +35,8 @@ fn put_one(out: &mut [u8; OUT], count: usize, k: usize, before: usize) {
 
 // A mask as a list under one name, and in words under another.
 fn put_mask_both(
-    out: &mut [u8; OUT],
-    words: &mut [u8; OUT],
+    out: &mut Out,
+    words: &mut Out,
     name: &[u8],
     said: &[u8],
     mask: usize,
@@ -53,7 +51,7 @@ fn put_mask_both(
     put_words(out, said, words);
 }
 
-fn put_who(out: &mut [u8; OUT], words: &mut [u8; OUT], rows: &[u8; ROWS], k: usize) {
+fn put_who(out: &mut Out, words: &mut Out, rows: &[u8; ROWS], k: usize) {
     text(out, b"{\"channel\":");
     number(out, channel(rows, k));
     put_name(out, b"voice");
@@ -70,7 +68,7 @@ fn put_who(out: &mut [u8; OUT], words: &mut [u8; OUT], rows: &[u8; ROWS], k: usi
     put_flag(out, b"locked", byte_of(rows, k, 10) == 1);
 }
 
-fn put_when(out: &mut [u8; OUT], words: &mut [u8; OUT], rows: &[u8; ROWS], k: usize) {
+fn put_when(out: &mut Out, words: &mut Out, rows: &[u8; ROWS], k: usize) {
     let chords = chord_mask(rows, k);
     put_mask_both(
         out,
@@ -97,7 +95,7 @@ fn put_when(out: &mut [u8; OUT], words: &mut [u8; OUT], rows: &[u8; ROWS], k: us
 }
 
 // The middle notes of a Ctb2.
-fn put_middle(out: &mut [u8; OUT], words: &mut [u8; OUT], rows: &[u8; ROWS], k: usize) {
+fn put_middle(out: &mut Out, words: &mut Out, rows: &[u8; ROWS], k: usize) {
     if !is_second(rows, k) {
         put_null(out, b"middle_notes");
         return;
@@ -112,7 +110,7 @@ fn put_middle(out: &mut [u8; OUT], words: &mut [u8; OUT], rows: &[u8; ROWS], k: 
 }
 
 // Bytes 40-46 of a Ctb2.
-fn put_tail(out: &mut [u8; OUT], rows: &[u8; ROWS], k: usize) {
+fn put_tail(out: &mut Out, rows: &[u8; ROWS], k: usize) {
     if !is_second(rows, k) {
         put_null(out, b"unexplained");
         return;
@@ -124,7 +122,7 @@ fn put_tail(out: &mut [u8; OUT], rows: &[u8; ROWS], k: usize) {
 
 // Where the record stands: its byte 0 in the file and in the body, and its length.
 fn put_record(
-    out: &mut [u8; OUT],
+    out: &mut Out,
     rows: &[u8; ROWS],
     group: &[u8],
     file_at: usize,
@@ -145,8 +143,8 @@ fn put_record(
 }
 
 pub fn put_channel(
-    out: &mut [u8; OUT],
-    words: &mut [u8; OUT],
+    out: &mut Out,
+    words: &mut Out,
     rows: &[u8; ROWS],
     group: &[u8],
     file_at: usize,

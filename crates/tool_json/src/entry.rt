@@ -7,7 +7,7 @@ use tool_dump::Dump;
 use tool_look::list::{LIST, entry, is_loose, is_sound, length_of, place_of};
 use tool_look::totals::edition_of;
 use tool_look::{Seen, body_place};
-use tool_out::{OUT, PLAIN, byte, clear, number, text};
+use tool_out::{Out, PLAIN, byte, clear, number, text};
 use tool_parts::put_json;
 use tool_reason::detail::{is_more, name_end, put_detail};
 use tool_reason::{Cause, cause_of_entry};
@@ -16,7 +16,7 @@ use tool_rows::row::ROWS;
 use tool_words::reasons::put_reason;
 
 // `,"refusal":{"number":..,"reason":..,"detail":..`, not yet ended.
-pub fn put_refusal(out: &mut [u8; OUT], words: &mut [u8; OUT], s: &[u8], cause: Cause) {
+pub fn put_refusal(out: &mut Out, words: &mut Out, s: &[u8], cause: Cause) {
     text(out, b",\"refusal\":{\"number\":");
     number(out, cause.number as usize);
     clear(words);
@@ -32,18 +32,17 @@ pub fn put_refusal(out: &mut [u8; OUT], words: &mut [u8; OUT], s: &[u8], cause: 
 }
 
 // A place in the file and in the body, not yet ended.
-pub fn put_places(out: &mut [u8; OUT], base: usize, at: usize) {
+pub fn put_places(out: &mut Out, base: usize, at: usize) {
     text(out, b",\"place\":{\"file\":");
     number(out, sum(base, at));
     put_number(out, b"body", at);
 }
 
 // The part names of a group.
-fn put_parts(out: &mut [u8; OUT], list: &[u8]) {
+fn put_parts(out: &mut Out, list: &[u8]) {
     let end = list.len();
     let mut from: usize = 0;
-    let mut left = sum(end, 1);
-    while 0 < left {
+    for _ in 0..sum(end, 1) {
         let ended = name_end(list, from, end);
         put_json(out, part(list, from, rest(ended, from)));
         if end <= ended {
@@ -51,30 +50,27 @@ fn put_parts(out: &mut [u8; OUT], list: &[u8]) {
         }
         byte(out, b',');
         from = sum(ended, 1);
-        left -= 1;
     }
 }
 
 fn put_channels(
-    out: &mut [u8; OUT],
-    words: &mut [u8; OUT],
+    out: &mut Out,
+    words: &mut Out,
     rows: &[u8; ROWS],
     group: &[u8],
     file_at: usize,
     body_at: usize,
     count: usize,
 ) {
-    let mut k: usize = 0;
-    while k < count {
+    for k in 0..count {
         if 0 < k {
             byte(out, b',');
         }
         put_channel(out, words, rows, group, file_at, body_at, k);
-        k += 1;
     }
 }
 
-fn put_group(out: &mut [u8; OUT], words: &mut [u8; OUT], group: &[u8], base: usize, at: usize) {
+fn put_group(out: &mut Out, words: &mut Out, group: &[u8], base: usize, at: usize) {
     let mut rows = tool_rows::row::room();
     put_number(out, b"edition", edition_of(group) as usize);
     put_name(out, b"parts");
@@ -87,8 +83,8 @@ fn put_group(out: &mut [u8; OUT], words: &mut [u8; OUT], group: &[u8], base: usi
 }
 
 fn put_other(
-    out: &mut [u8; OUT],
-    words: &mut [u8; OUT],
+    out: &mut Out,
+    words: &mut Out,
     file: &[u8],
     body: &[u8],
     list: &[usize; LIST],
@@ -109,7 +105,7 @@ fn put_other(
     tool_dump::json::put_dump(out, file, dump);
 }
 
-fn put_kind(out: &mut [u8; OUT], body: &[u8], list: &[usize; LIST], k: usize) {
+fn put_kind(out: &mut Out, body: &[u8], list: &[usize; LIST], k: usize) {
     if is_sound(list, k) {
         text(out, b"{\"kind\":\"sound\"");
         return;
@@ -122,8 +118,8 @@ fn put_kind(out: &mut [u8; OUT], body: &[u8], list: &[usize; LIST], k: usize) {
 }
 
 fn put_entry(
-    out: &mut [u8; OUT],
-    words: &mut [u8; OUT],
+    out: &mut Out,
+    words: &mut Out,
     file: &[u8],
     body: &[u8],
     list: &[usize; LIST],
@@ -143,20 +139,18 @@ fn put_entry(
 }
 
 pub fn put_entries(
-    out: &mut [u8; OUT],
-    words: &mut [u8; OUT],
+    out: &mut Out,
+    words: &mut Out,
     file: &[u8],
     body: &[u8],
     list: &[usize; LIST],
     seen: Seen,
 ) {
     let base = body_place(seen);
-    let mut k: usize = 0;
-    while k < seen.count {
+    for k in 0..seen.count {
         if 0 < k {
             byte(out, b',');
         }
         put_entry(out, words, file, body, list, base, k);
-        k += 1;
     }
 }

@@ -1,5 +1,6 @@
 // `casm report --json`: the same facts for programs, one object a file.
 #![tactic(auto)]
+
 pub mod channel;
 pub mod entry;
 pub mod put;
@@ -11,13 +12,13 @@ use tool_bytes::{rest, sum};
 use tool_look::list::LIST;
 use tool_look::totals::{Totals, editions, totals_of};
 use tool_look::{SOUND, Seen, body_of, body_place, file_place, verdict_words};
-use tool_out::{JSON, MEMORY, OUT, byte, number, text, word, writer};
+use tool_out::{JSON, Out, byte, fail_with, memory_for, number, text, word};
 use tool_parts::{next_section, put_json, put_tag, section_length, sections_end};
 use tool_reason::cause_of;
 use tool_report::head::dump_of;
 
 // The editions of a file: `[1]`, `[2]`, both or none.
-pub fn put_editions(out: &mut [u8; OUT], which: u8) {
+pub fn put_editions(out: &mut Out, which: u8) {
     if which == 1 {
         text(out, b"[1]");
         return;
@@ -33,7 +34,7 @@ pub fn put_editions(out: &mut [u8; OUT], which: u8) {
     text(out, b"[]");
 }
 
-fn put_counts(out: &mut [u8; OUT], seen: Seen, totals: Totals) {
+fn put_counts(out: &mut Out, seen: Seen, totals: Totals) {
     if !seen.is_body {
         text(out, b",\"counts\":null");
         return;
@@ -48,7 +49,7 @@ fn put_counts(out: &mut [u8; OUT], seen: Seen, totals: Totals) {
     byte(out, b'}');
 }
 
-fn put_section(out: &mut [u8; OUT], file: &[u8], tag: usize) {
+fn put_section(out: &mut Out, file: &[u8], tag: usize) {
     if 0 < tag {
         byte(out, b',');
     }
@@ -60,20 +61,18 @@ fn put_section(out: &mut [u8; OUT], file: &[u8], tag: usize) {
     byte(out, b'}');
 }
 
-fn put_sections(out: &mut [u8; OUT], file: &[u8], end: usize) {
+fn put_sections(out: &mut Out, file: &[u8], end: usize) {
     let mut tag: usize = 0;
-    let mut left = file.len();
-    while 0 < left {
+    for _ in 0..file.len() {
         if end <= tag {
             return;
         }
         put_section(out, file, tag);
         tag = next_section(file, tag);
-        left -= 1;
     }
 }
 
-fn put_casm(out: &mut [u8; OUT], seen: Seen) {
+fn put_casm(out: &mut Out, seen: Seen) {
     if !seen.is_body {
         text(out, b"],\"casm\":null");
         return;
@@ -86,13 +85,7 @@ fn put_casm(out: &mut [u8; OUT], seen: Seen) {
 }
 
 // The refusal of the file or of its body, with the bytes there.
-fn put_refused(
-    out: &mut [u8; OUT],
-    words: &mut [u8; OUT],
-    file: &[u8],
-    list: &[usize; LIST],
-    seen: Seen,
-) {
+fn put_refused(out: &mut Out, words: &mut Out, file: &[u8], list: &[usize; LIST], seen: Seen) {
     if seen.verdict == SOUND {
         text(out, b",\"refusal\":null");
         return;
@@ -115,7 +108,7 @@ fn put_refused(
     byte(out, b'}');
 }
 
-fn put_head(out: &mut [u8; OUT], name: &[u8], file: &[u8], seen: Seen, totals: Totals) {
+fn put_head(out: &mut Out, name: &[u8], file: &[u8], seen: Seen, totals: Totals) {
     text(out, b"{\"file\":");
     put_json(out, name);
     put_number(out, b"size", file.len());
@@ -127,8 +120,8 @@ fn put_head(out: &mut [u8; OUT], name: &[u8], file: &[u8], seen: Seen, totals: T
 }
 
 // The object of a file that was looked at.
-pub fn report(out: &mut [u8; OUT], name: &[u8], file: &[u8], list: &[usize; LIST], seen: Seen) {
-    let mut words = writer(MEMORY);
+pub fn report(out: &mut Out, name: &[u8], file: &[u8], list: &[usize; LIST], seen: Seen) {
+    let mut words = memory_for(out);
     let body = body_of(file, seen.tag, seen.length);
     let totals = totals_of(body, list, seen.count);
     put_head(out, name, file, seen, totals);
@@ -140,4 +133,5 @@ pub fn report(out: &mut [u8; OUT], name: &[u8], file: &[u8], list: &[usize; LIST
     text(out, b",\"entries\":[");
     put_entries(out, &mut words, file, body, list, seen);
     text(out, b"]}\n");
+    fail_with(out, &words);
 }

@@ -1,13 +1,13 @@
 // The sets of a channel as JSON: one with the name `all`, or those of the low, the middle and the high notes.
 use crate::put::{put_name, put_null, put_number, put_words};
 use tool_bytes::{rest, sum};
-use tool_out::{OUT, byte, clear, number, text, word};
+use tool_out::{Out, byte, clear, number, text, word};
 use tool_rows::row;
 use tool_rows::row::{ROWS, byte_of, is_second, set_place};
 use tool_words::{names, put_notes, put_root, put_table};
 
 // Notes from one to another; null where there are none.
-fn put_reach(out: &mut [u8; OUT], low: usize, end: usize) {
+fn put_reach(out: &mut Out, low: usize, end: usize) {
     if end <= low {
         put_null(out, b"source_notes");
         return;
@@ -19,7 +19,7 @@ fn put_reach(out: &mut [u8; OUT], low: usize, end: usize) {
 }
 
 // The source notes that use set number `set`: those below the middle range, in it, and the others.
-fn put_source_notes(out: &mut [u8; OUT], rows: &[u8; ROWS], k: usize, set: usize) {
+fn put_source_notes(out: &mut Out, rows: &[u8; ROWS], k: usize, set: usize) {
     if !is_second(rows, k) {
         put_reach(out, 0, 128);
         return;
@@ -41,7 +41,7 @@ fn put_source_notes(out: &mut [u8; OUT], rows: &[u8; ROWS], k: usize, set: usize
     put_reach(out, behind, 128);
 }
 
-fn put_set_name(out: &mut [u8; OUT], rows: &[u8; ROWS], k: usize, set: usize) {
+fn put_set_name(out: &mut Out, rows: &[u8; ROWS], k: usize, set: usize) {
     text(out, b"{\"set\":\"");
     if is_second(rows, k) {
         let whose = names::set((set % 256) as u8);
@@ -52,7 +52,7 @@ fn put_set_name(out: &mut [u8; OUT], rows: &[u8; ROWS], k: usize, set: usize) {
     byte(out, b'"');
 }
 
-fn put_table_name(words: &mut [u8; OUT], rows: &[u8; ROWS], k: usize, i: usize) {
+fn put_table_name(words: &mut Out, rows: &[u8; ROWS], k: usize, i: usize) {
     if is_second(rows, k) {
         put_table(words, byte_of(rows, k, i), byte_of(rows, k, sum(i, 1)));
         return;
@@ -61,7 +61,7 @@ fn put_table_name(words: &mut [u8; OUT], rows: &[u8; ROWS], k: usize, i: usize) 
     word(words, &name);
 }
 
-fn put_second(out: &mut [u8; OUT], words: &mut [u8; OUT], rows: &[u8; ROWS], k: usize) {
+fn put_second(out: &mut Out, words: &mut Out, rows: &[u8; ROWS], k: usize) {
     if byte_of(rows, k, row::HAS_SECOND) == 0 {
         put_null(out, b"second_table");
         return;
@@ -72,7 +72,7 @@ fn put_second(out: &mut [u8; OUT], words: &mut [u8; OUT], rows: &[u8; ROWS], k: 
 }
 
 // The limits of a set whose bytes begin at byte i, and its retrigger rule.
-fn put_limits(out: &mut [u8; OUT], words: &mut [u8; OUT], rows: &[u8; ROWS], k: usize, i: usize) {
+fn put_limits(out: &mut Out, words: &mut Out, rows: &[u8; ROWS], k: usize, i: usize) {
     let low = byte_of(rows, k, sum(i, 3));
     let high = byte_of(rows, k, sum(i, 4));
     put_name(out, b"high_key");
@@ -91,7 +91,7 @@ fn put_limits(out: &mut [u8; OUT], words: &mut [u8; OUT], rows: &[u8; ROWS], k: 
     byte(out, b'}');
 }
 
-fn put_set(out: &mut [u8; OUT], words: &mut [u8; OUT], rows: &[u8; ROWS], k: usize, set: usize) {
+fn put_set(out: &mut Out, words: &mut Out, rows: &[u8; ROWS], k: usize, set: usize) {
     let i = set_place(rows, k, set);
     put_set_name(out, rows, k, set);
     put_source_notes(out, rows, k, set);
@@ -113,14 +113,12 @@ fn sets_of(rows: &[u8; ROWS], k: usize) -> usize {
     1
 }
 
-pub fn put_sets(out: &mut [u8; OUT], words: &mut [u8; OUT], rows: &[u8; ROWS], k: usize) {
+pub fn put_sets(out: &mut Out, words: &mut Out, rows: &[u8; ROWS], k: usize) {
     let count = sets_of(rows, k);
-    let mut set: usize = 0;
-    while set < count {
+    for set in 0..count {
         if 0 < set {
             byte(out, b',');
         }
         put_set(out, words, rows, k, set);
-        set += 1;
     }
 }

@@ -1,5 +1,6 @@
 // What a file is found to be: its CASM section, whether the body is sound, and the body's entries.
 #![tactic(auto)]
+
 pub mod list;
 pub mod totals;
 
@@ -36,7 +37,7 @@ pub fn verdict_words(verdict: u8) -> [u8; 16] {
 }
 
 // What was found. A refusal's place counts from the body's start where there is a body, and else from the file's.
-#[derive(Drop)]
+#[derive(Clone, Copy)]
 pub struct Seen {
     pub verdict: u8,
     pub number: u8,
@@ -74,12 +75,10 @@ fn without_body(found: Located) -> Seen {
 // The groups of a body that is sound, one behind the other: a name in it may hold the letters of a tag, so the salvage list could cut elsewhere.
 fn list_groups(body: &[u8], list: &mut [usize; LIST], count: usize) {
     let mut at: usize = 0;
-    let mut k: usize = 0;
-    while k < count {
+    for k in 0..count {
         let judged = judge_entry(part(body, at, rest(body.len(), at)));
         put_group(list, k, at, judged.length);
         at = sum(at, judged.length);
-        k += 1;
     }
 }
 

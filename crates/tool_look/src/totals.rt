@@ -4,7 +4,7 @@ use casm::read::{find_group, group_text};
 use layout::edition::Edition;
 use tool_bytes::sum;
 
-#[derive(Drop)]
+#[derive(Clone, Copy)]
 pub struct Totals {
     pub sound: usize,
     pub damaged: usize,
@@ -30,12 +30,10 @@ fn none() -> Totals {
 // How many names a list of part names has.
 pub fn parts_of(text: &[u8]) -> usize {
     let mut n: usize = 1;
-    let mut i: usize = 0;
-    while i < text.len() {
+    for i in 0..text.len() {
         if text[i] == b',' {
             n = sum(n, 1);
         }
-        i += 1;
     }
     n
 }
@@ -98,10 +96,8 @@ fn with_entry(before: Totals, body: &[u8], list: &[usize; LIST], k: usize) -> To
 // The totals of the first `count` entries.
 pub fn totals_of(body: &[u8], list: &[usize; LIST], count: usize) -> Totals {
     let mut totals = none();
-    let mut k: usize = 0;
-    while k < count {
+    for k in 0..count {
         totals = with_entry(totals, body, list, k);
-        k += 1;
     }
     totals
 }

@@ -1,9 +1,10 @@
 // `casm plays` for people, of a part alone: how many of its channels play under each chord, which start by themselves, and which play under no chord.
 #![tactic(auto)]
+
 use casm::read::find_part;
 use tool_bytes::sum;
 use tool_out::{
-    OUT, SHOWN, count, end_line, number, number_in, pad, text, text_as, trimmed_length, word,
+    Out, SHOWN, count, end_line, number, number_in, pad, text, text_as, trimmed_length, word,
 };
 use tool_rows::read_rows;
 use tool_rows::row::{ROWS, channel, chord_mask, room, root_mask, voice};
@@ -12,19 +13,17 @@ use tool_words::masks::{ROOTS, put_chords, put_mask};
 use tool_words::{names, put_voice_or_none};
 
 // The roots above their columns.
-fn put_roots(out: &mut [u8; OUT]) {
+fn put_roots(out: &mut Out) {
     pad(out, 0, 10);
-    let mut k: usize = 0;
-    while k < 12 {
+    for k in 0..12usize {
         let name = names::root((k % 256) as u8);
         pad(out, trimmed_length(&name), 4);
         word(out, &name);
-        k += 1;
     }
     end_line(out);
 }
 
-fn put_count(out: &mut [u8; OUT], n: usize) {
+fn put_count(out: &mut Out, n: usize) {
     if n == 0 {
         text(out, b"   .");
         return;
@@ -33,29 +32,25 @@ fn put_count(out: &mut [u8; OUT], n: usize) {
 }
 
 // The counts of a chord type.
-fn put_row(out: &mut [u8; OUT], counts: &[usize; CHORDS], kind: usize) {
+fn put_row(out: &mut Out, counts: &[usize; CHORDS], kind: usize) {
     let name = names::chord((kind % 256) as u8);
     text(out, b"  ");
     word(out, &name);
     pad(out, trimmed_length(&name), 8);
-    let mut root: usize = 0;
-    while root < 12 {
+    for root in 0..12 {
         put_count(out, count_at(counts, root, kind));
-        root += 1;
     }
     end_line(out);
 }
 
-fn put_counts(out: &mut [u8; OUT], counts: &[usize; CHORDS]) {
+fn put_counts(out: &mut Out, counts: &[usize; CHORDS]) {
     put_roots(out);
-    let mut kind: usize = 0;
-    while kind < 34 {
+    for kind in 0..34 {
         put_row(out, counts, kind);
-        kind += 1;
     }
 }
 
-fn put_channel(out: &mut [u8; OUT], rows: &[u8; ROWS], k: usize) {
+fn put_channel(out: &mut Out, rows: &[u8; ROWS], k: usize) {
     text(out, b"ch ");
     number(out, channel(rows, k));
     text(out, b" ");
@@ -63,7 +58,7 @@ fn put_channel(out: &mut [u8; OUT], rows: &[u8; ROWS], k: usize) {
 }
 
 // A channel that starts by itself, behind those before it.
-fn put_next(out: &mut [u8; OUT], rows: &[u8; ROWS], k: usize, before: usize) {
+fn put_next(out: &mut Out, rows: &[u8; ROWS], k: usize, before: usize) {
     if before == 0 {
         text(out, b"  Auto start: ");
     } else {
@@ -72,15 +67,13 @@ fn put_next(out: &mut [u8; OUT], rows: &[u8; ROWS], k: usize, before: usize) {
     put_channel(out, rows, k);
 }
 
-fn put_auto(out: &mut [u8; OUT], rows: &[u8; ROWS], many: usize) {
+fn put_auto(out: &mut Out, rows: &[u8; ROWS], many: usize) {
     let mut before: usize = 0;
-    let mut k: usize = 0;
-    while k < many {
+    for k in 0..many {
         if is_auto(rows, k) {
             put_next(out, rows, k, before);
             before = sum(before, 1);
         }
-        k += 1;
     }
     if 0 < before {
         end_line(out);
@@ -88,7 +81,7 @@ fn put_auto(out: &mut [u8; OUT], rows: &[u8; ROWS], many: usize) {
 }
 
 // A channel that plays under no chord, and its masks.
-fn put_silent(out: &mut [u8; OUT], rows: &[u8; ROWS], k: usize) {
+fn put_silent(out: &mut Out, rows: &[u8; ROWS], k: usize) {
     text(out, b"  Plays under no chord: ");
     put_channel(out, rows, k);
     text(out, b" (roots ");
@@ -98,18 +91,16 @@ fn put_silent(out: &mut [u8; OUT], rows: &[u8; ROWS], k: usize) {
     text(out, b")\n");
 }
 
-fn put_never(out: &mut [u8; OUT], rows: &[u8; ROWS], many: usize, marks: &[u8; MARKS]) {
-    let mut k: usize = 0;
-    while k < many {
+fn put_never(out: &mut Out, rows: &[u8; ROWS], many: usize, marks: &[u8; MARKS]) {
+    for k in 0..many {
         if !is_marked(marks, rows, k) {
             put_silent(out, rows, k);
         }
-        k += 1;
     }
 }
 
 // The part is one of the body's.
-pub fn plays_matrix(out: &mut [u8; OUT], body: &[u8], name: &[u8]) {
+pub fn plays_matrix(out: &mut Out, body: &[u8], name: &[u8]) {
     let named = find_part(body, name);
     let mut rows = room();
     let many = read_rows(&mut rows, body, named.group);

@@ -1,5 +1,6 @@
 // `casm note`: where a note of a channel is placed under a chord, and what of its record places it.
 #![tactic(auto)]
+
 use casm::questions::place_note;
 use casm::read::{find_channel, find_part};
 use casm_by_value::read_with_room;
@@ -8,8 +9,8 @@ use layout::record::{Record, SourceChannel};
 use layout::refusal::ROOT_FIXED;
 use tool_bytes::sum;
 use tool_chord::put_name;
-use tool_ends::{CANNOT, DONE, NO, begin, complain, end};
-use tool_out::{OUT, PLAIN, SHOWN, end_line, number, text, text_as};
+use tool_ends::{CANNOT, DONE, Host, NO, begin, complain, end};
+use tool_out::{Out, PLAIN, SHOWN, end_line, number, text, text_as};
 use tool_placing::put_facts;
 use tool_rows::row::{ROWS, channel, room, voice};
 use tool_rows::{blank_table, read_rows};
@@ -26,7 +27,7 @@ fn record_at(body: &[u8], group: usize, k: usize) -> Record {
     table[0]
 }
 
-fn put_numbered(out: &mut [u8; OUT], note: u8) {
+fn put_numbered(out: &mut Out, note: u8) {
     put_note(out, note);
     text(out, b" (");
     number(out, note as usize);
@@ -34,7 +35,7 @@ fn put_numbered(out: &mut [u8; OUT], note: u8) {
 }
 
 // The part, the channel of row k and the chord.
-fn put_where(out: &mut [u8; OUT], name: &[u8], rows: &[u8; ROWS], k: usize, root: u8, kind: u8) {
+fn put_where(out: &mut Out, name: &[u8], rows: &[u8; ROWS], k: usize, root: u8, kind: u8) {
     text_as(out, SHOWN, name);
     text(out, b", ch ");
     number(out, channel(rows, k));
@@ -46,7 +47,7 @@ fn put_where(out: &mut [u8; OUT], name: &[u8], rows: &[u8; ROWS], k: usize, root
 }
 
 // Where a note is placed, or why it is not.
-fn put_placed(out: &mut [u8; OUT], note: u8, placed: Placed) {
+fn put_placed(out: &mut Out, note: u8, placed: Placed) {
     put_numbered(out, note);
     if placed.number == 0 {
         text(out, b" is placed at ");
@@ -65,7 +66,7 @@ fn put_placed(out: &mut [u8; OUT], note: u8, placed: Placed) {
 
 // That the channel of row k does not play under the chord, where it does not.
 fn put_silent(
-    out: &mut [u8; OUT],
+    out: &mut Out,
     body: &[u8],
     name: &[u8],
     rows: &[u8; ROWS],
@@ -86,20 +87,18 @@ fn put_silent(
 }
 
 // The channels of a group, on one line.
-fn put_channels(out: &mut [u8; OUT], rows: &[u8; ROWS], many: usize) {
-    let mut k: usize = 0;
-    while k < many {
+fn put_channels(out: &mut Out, rows: &[u8; ROWS], many: usize) {
+    for k in 0..many {
         if 0 < k {
             text(out, b", ");
         }
         number(out, channel(rows, k));
-        k += 1;
     }
 }
 
 // No such channel in the part: those that it has.
-fn complain_channel(name: &[u8], rows: &[u8; ROWS], many: usize, given: u8) -> u8 {
-    let mut out = begin(b"note");
+fn complain_channel(rt: &impl Host, name: &[u8], rows: &[u8; ROWS], many: usize, given: u8) -> u8 {
+    let mut out = begin(rt, b"note");
     text(&mut out, b"no channel ");
     number(&mut out, sum(given as usize, 1));
     text(&mut out, b" in ");
@@ -110,7 +109,7 @@ fn complain_channel(name: &[u8], rows: &[u8; ROWS], many: usize, given: u8) -> u
         text(&mut out, b"; its channels are ");
         put_channels(&mut out, rows, many);
     }
-    end(&mut out);
+    end(rt, &mut out);
     CANNOT
 }
 
@@ -123,7 +122,8 @@ fn status_of(placed: Placed) -> u8 {
 
 // Tells where a note of a source channel of a part is placed under a chord. What the run comes to: the note is placed, or it is not, or there is no such channel.
 pub fn note(
-    out: &mut [u8; OUT],
+    rt: &impl Host,
+    out: &mut Out,
     body: &[u8],
     name: &[u8],
     given: u8,
@@ -134,13 +134,13 @@ pub fn note(
     let named = find_part(body, name);
     if named.number != 0 {
         let words = reasons::reason(reasons::NO_PART);
-        return complain(b"note", &words);
+        return complain(rt, b"note", &words);
     }
     let mut rows = room();
     let many = read_rows(&mut rows, body, named.group);
     let found = find_channel(body, named.group, SourceChannel(given));
     if found.number != 0 {
-        return complain_channel(name, &rows, many, given);
+        return complain_channel(rt, name, &rows, many, given);
     }
     let k = found.row;
     let record = record_at(body, named.group, k);

@@ -1,12 +1,10 @@
-// A buffered writer whose functions take every input, so that code which prints needs no proof.
-// One lent array is the whole writer. Its first four bytes say where it writes, whether a write failed, and how much waits behind them.
+// A writer in memory whose functions take every input, so that code which prints needs no proof; what waits in it is written by `flush`, which alone needs a handle.
+// Where memory runs out the writer has failed, and is so from then on: what it was to write is not written.
 #![tactic(auto)]
+
 ghost use Rattle.std.specs.Prelude.{◌<◌, ◌≤◌, length};
 
-// Four bytes of state, and a block of 65,536 characters.
-pub const OUT: usize = 65540;
-
-const BLOCK: usize = 65536;
+use std::alloc::{AllocError, Global};
 
 // How each byte of a text is put: as it is, or so that a terminal, a JSON string or an HTML text shows it.
 pub const PLAIN: u8 = 0;
@@ -26,94 +24,104 @@ pub const ERRORS: u8 = 1;
 
 pub const MEMORY: u8 = 2;
 
-pub fn writer(to: u8) -> [u8; OUT] {
-    let mut out = [0; OUT];
-    out[0] = to;
-    out
+#[derive(Drop)]
+pub struct Out {
+    to: u8,
+    has_failed: bool,
+    memory: Result<(), AllocError>,
+    waiting: Vec<u8>,
 }
 
-fn wide(b: u8) -> usize
-    ensures { result < 256 }
-{
-    b as usize
-}
-
-fn used(out: &[u8; OUT]) -> usize
-    ensures { result < 65536 }
-{
-    wide(out[2]) * 256 + wide(out[3])
-}
-
-fn use_only(out: &mut [u8; OUT], n: usize)
-    requires { n < 65536 }
-{
-    out[2] = (n / 256) as u8;
-    out[3] = (n % 256) as u8;
-}
-
-// Whether a write failed. From then on nothing is written.
-pub fn is_failed(out: &[u8; OUT]) -> bool {
-    out[1] != 0
-}
-
-fn descriptor(out: &[u8; OUT]) -> i32 {
-    if out[0] == ERRORS {
-        return libc::STDERR_FILENO;
+pub fn writer(alloc: Global, to: u8) -> Out {
+    Out {
+        to,
+        has_failed: false,
+        memory: Ok(()),
+        waiting: Vec::new(alloc),
     }
-    libc::STDOUT_FILENO
 }
 
-// Writes the first n of the block.
-fn drain(out: &mut [u8; OUT], n: usize)
-    requires { n ≤ 65536 }
-{
-    use_only(out, 0);
-    if is_failed(out) || out[0] == MEMORY {
-        return;
-    }
-    let fd = descriptor(out);
-    let end = 4 + n;
-    let s: &[u8] = out;
-    let is_written = io::write_all(fd, &s[4..end]);
-    if !is_written {
-        out[1] = 1;
+// A writer in memory, for what `out` is to write later.
+pub fn memory_for(out: &Out) -> Out {
+    let alloc = *out.waiting.allocator();
+    writer(alloc, MEMORY)
+}
+
+// Whether a write failed, or memory ran out. From then on nothing is written.
+pub fn is_failed(out: &Out) -> bool {
+    out.has_failed || out.memory.is_err()
+}
+
+// Where a writer failed whose words go into `out`, `out` has failed too.
+pub fn fail_with(out: &mut Out, words: &Out) {
+    if words.memory.is_err() {
+        out.memory = words.memory;
     }
 }
 
 // What waits, as it stands.
-pub fn held<'a>(out: &'a [u8; OUT]) -> &'a [u8] {
-    let end = 4 + used(out);
-    let s: &[u8] = out;
-    &s[4..end]
+pub fn held<'a>(out: &'a Out) -> &'a [u8] {
+    out.waiting.as_slice()
+}
+
+// The same, where memory sufficed for all that was put.
+pub fn whole<'a>(out: &'a Out) -> Result<&'a [u8], AllocError> {
+    out.memory?;
+    Ok(held(out))
 }
 
 // Leaves off what waits.
-pub fn clear(out: &mut [u8; OUT]) {
-    use_only(out, 0);
+pub fn clear(out: &mut Out) {
+    out.waiting.clear();
+}
+
+// Standard error takes text: what is not, is not written.
+fn is_put_to_errors(rt: &impl Eprint, bytes: &[u8]) -> bool {
+    match std::str::from_utf8(bytes) {
+        Ok(words) => rt.eprint(words).is_ok(),
+        Err(_) => false,
+    }
+}
+
+fn is_put<R: Print + Eprint>(rt: &R, to: u8, bytes: &[u8]) -> bool {
+    if to == MEMORY {
+        return true;
+    }
+    if to == ERRORS {
+        return is_put_to_errors(rt, bytes);
+    }
+    rt.write_all(bytes).is_ok()
 }
 
 // Writes what waits.
-pub fn flush(out: &mut [u8; OUT]) {
-    let n = used(out);
-    drain(out, n);
+pub fn flush<R: Print + Eprint>(rt: &R, out: &mut Out) {
+    if !is_failed(out) {
+        let is_written = is_put(rt, out.to, held(out));
+        out.has_failed = !is_written;
+    }
+    clear(out);
 }
 
-pub fn byte(out: &mut [u8; OUT], b: u8) {
-    let n = used(out);
-    out[4 + n] = b;
-    if n + 1 < BLOCK {
-        use_only(out, n + 1);
-        return;
+// How much waits at most where much is written in turn.
+const BLOCK: usize = 65536;
+
+// Writes what waits, where that is a block.
+pub fn flush_block<R: Print + Eprint>(rt: &R, out: &mut Out) {
+    if BLOCK <= held(out).len() {
+        flush(rt, out);
     }
-    drain(out, BLOCK);
+}
+
+pub fn byte(out: &mut Out, b: u8) {
+    if let Err(e) = out.waiting.push(b) {
+        out.memory = Err(AllocError::from(e));
+    }
 }
 
 // A text as it is.
-pub fn text(out: &mut [u8; OUT], text: &[u8]) {
-    let mut i: usize = 0;
-    while i < text.len() {
-        byte(out, text[i]);
-        i += 1;
+pub fn text(out: &mut Out, text: &[u8]) {
+    if let Err(e) = out.waiting.extend_from_slice(text) {
+        out.memory = Err(e);
     }
 }
 
@@ -126,13 +134,13 @@ fn digit(value: u8) -> u8 {
     b'a' + (low - 10)
 }
 
-pub fn pair(out: &mut [u8; OUT], b: u8) {
+pub fn pair(out: &mut Out, b: u8) {
     byte(out, digit(b / 16));
     byte(out, digit(b));
 }
 
 // The same in capitals, as the documents write a byte.
-pub fn upper_pair(out: &mut [u8; OUT], b: u8) {
+pub fn upper_pair(out: &mut Out, b: u8) {
     byte(out, upper_digit(b / 16));
     byte(out, upper_digit(b));
 }
@@ -150,13 +158,13 @@ fn is_printable(b: u8) -> bool {
 }
 
 // A byte that a terminal is never sent as it is: `\xNN`.
-fn escaped(out: &mut [u8; OUT], b: u8) {
+fn escaped(out: &mut Out, b: u8) {
     byte(out, b'\\');
     byte(out, b'x');
     pair(out, b);
 }
 
-fn shown_byte(out: &mut [u8; OUT], b: u8) {
+fn shown_byte(out: &mut Out, b: u8) {
     if is_printable(b) {
         byte(out, b);
         return;
@@ -165,7 +173,7 @@ fn shown_byte(out: &mut [u8; OUT], b: u8) {
 }
 
 // Inside a JSON string: as it is shown, and quotes and backslashes escaped, so that the string is the shown text.
-fn json_byte(out: &mut [u8; OUT], b: u8) {
+fn json_byte(out: &mut Out, b: u8) {
     if b == b'"' || b == b'\\' {
         byte(out, b'\\');
         byte(out, b);
@@ -180,7 +188,7 @@ fn json_byte(out: &mut [u8; OUT], b: u8) {
 }
 
 // What HTML takes for its own, by its name.
-fn html_byte(out: &mut [u8; OUT], b: u8) {
+fn html_byte(out: &mut Out, b: u8) {
     if b == b'<' {
         text(out, b"&lt;");
         return;
@@ -204,7 +212,7 @@ fn html_byte(out: &mut [u8; OUT], b: u8) {
     shown_byte(out, b);
 }
 
-fn byte_as(out: &mut [u8; OUT], how: u8, b: u8) {
+fn byte_as(out: &mut Out, how: u8, b: u8) {
     if how == SHOWN {
         shown_byte(out, b);
         return;
@@ -225,63 +233,59 @@ fn byte_as(out: &mut [u8; OUT], how: u8, b: u8) {
 }
 
 // A text, each byte put as `how` says.
-pub fn text_as(out: &mut [u8; OUT], how: u8, text: &[u8]) {
-    let mut i: usize = 0;
-    while i < text.len() {
-        byte_as(out, how, text[i]);
-        i += 1;
+pub fn text_as(out: &mut Out, how: u8, text: &[u8]) {
+    for b in text {
+        byte_as(out, how, *b);
     }
 }
 
 // The byte, `count` times.
-pub fn fill(out: &mut [u8; OUT], b: u8, count: usize) {
-    let mut left = count;
-    while 0 < left {
+pub fn fill(out: &mut Out, b: u8, count: usize) {
+    for _ in 0..count {
         byte(out, b);
-        left -= 1;
     }
 }
 
 // Spaces from a column to one further on; none where it is passed.
-pub fn pad(out: &mut [u8; OUT], from: usize, to: usize) {
+pub fn pad(out: &mut Out, from: usize, to: usize) {
     if from < to {
         fill(out, b' ', to - from);
     }
 }
 
 // A text, and spaces behind it up to a width.
-pub fn padded(out: &mut [u8; OUT], words: &[u8], width: usize) {
+pub fn padded(out: &mut Out, words: &[u8], width: usize) {
     text(out, words);
     pad(out, words.len(), width);
 }
 
 // A number in decimal, right-aligned in a width.
-pub fn number_in(out: &mut [u8; OUT], n: usize, width: usize) {
+pub fn number_in(out: &mut Out, n: usize, width: usize) {
     let mut digits = [0u8; 20];
     let count = io::decimal(n as u64, &mut digits);
     pad(out, count, width);
     text(out, &digits[..count]);
 }
 
-pub fn number(out: &mut [u8; OUT], n: usize) {
+pub fn number(out: &mut Out, n: usize) {
     number_in(out, n, 0);
 }
 
 // A number in hex, with zeros in front up to so many digits.
-pub fn zeros(out: &mut [u8; OUT], n: usize, width: usize) {
+pub fn zeros(out: &mut Out, n: usize, width: usize) {
     let mut digits = [0u8; 16];
     let count = io::hex(n as u64, width, &mut digits);
     text(out, &digits[..count]);
 }
 
 // A number in hex with 0x before it.
-pub fn hex(out: &mut [u8; OUT], n: usize) {
+pub fn hex(out: &mut Out, n: usize) {
     text(out, b"0x");
     zeros(out, n, 1);
 }
 
 // Three digits, with zeros in front.
-fn three(out: &mut [u8; OUT], n: usize) {
+fn three(out: &mut Out, n: usize) {
     let d = n % 1000;
     if d < 100 {
         byte(out, b'0');
@@ -293,13 +297,13 @@ fn three(out: &mut [u8; OUT], n: usize) {
 }
 
 // A comma and three digits, of a number that has so many behind them.
-fn comma_three(out: &mut [u8; OUT], n: usize) {
+fn comma_three(out: &mut Out, n: usize) {
     byte(out, b',');
     three(out, n);
 }
 
 // A number with a comma before every three digits; the lengths of a file have four bytes, so at most three of them.
-pub fn grouped(out: &mut [u8; OUT], n: usize) {
+pub fn grouped(out: &mut Out, n: usize) {
     if n < 1000 {
         number(out, n);
         return;
@@ -322,7 +326,7 @@ pub fn grouped(out: &mut [u8; OUT], n: usize) {
 }
 
 // How many of something, `1 byte` or `1,736 bytes`.
-pub fn count(out: &mut [u8; OUT], n: usize, one: &[u8], more: &[u8]) {
+pub fn count(out: &mut Out, n: usize, one: &[u8], more: &[u8]) {
     grouped(out, n);
     byte(out, b' ');
     if n == 1 {
@@ -333,14 +337,14 @@ pub fn count(out: &mut [u8; OUT], n: usize, one: &[u8], more: &[u8]) {
 }
 
 // A place in decimal and in hex: `56 (0x38)`.
-pub fn place(out: &mut [u8; OUT], at: usize) {
+pub fn place(out: &mut Out, at: usize) {
     number(out, at);
     text(out, b" (");
     hex(out, at);
     byte(out, b')');
 }
 
-pub fn end_line(out: &mut [u8; OUT]) {
+pub fn end_line(out: &mut Out) {
     byte(out, b'\n');
 }
 
@@ -359,11 +363,11 @@ pub fn trimmed_length(text: &[u8]) -> usize
 }
 
 // A row of a table of words, without the spaces that fill it up.
-pub fn word_as(out: &mut [u8; OUT], how: u8, row: &[u8]) {
+pub fn word_as(out: &mut Out, how: u8, row: &[u8]) {
     let n = trimmed_length(row);
     text_as(out, how, &row[0..n]);
 }
 
-pub fn word(out: &mut [u8; OUT], row: &[u8]) {
+pub fn word(out: &mut Out, row: &[u8]) {
     word_as(out, PLAIN, row);
 }

@@ -3,7 +3,7 @@ use tool_bytes::{rest, sum};
 use tool_dump::Dump;
 use tool_look::list::{LIST, length_of, place_of};
 use tool_look::{Seen, body_of, body_place};
-use tool_out::{OUT, number, place, text};
+use tool_out::{Out, number, place, text};
 use tool_page_box::put_entry_word;
 use tool_page_group::put_group;
 use tool_page_words::bytes::put_bytes;
@@ -13,20 +13,20 @@ use tool_page_words::{
 use tool_reason::{Cause, cause_of_entry};
 
 // `Entry 2 of 5`.
-fn put_which(out: &mut [u8; OUT], seen: Seen, k: usize) {
+fn put_which(out: &mut Out, seen: Seen, k: usize) {
     put_entry_word(out, seen);
     number(out, sum(k, 1));
     text(out, b" of ");
     number(out, seen.count);
 }
 
-fn put_ids(out: &mut [u8; OUT], k: usize) {
+fn put_ids(out: &mut Out, k: usize) {
     put_id(out, k);
     text(out, b"\" aria-labelledby=\"");
     put_id(out, k);
 }
 
-fn put_sound(out: &mut [u8; OUT], body: &[u8], list: &[usize; LIST], seen: Seen, k: usize) {
+fn put_sound(out: &mut Out, body: &[u8], list: &[usize; LIST], seen: Seen, k: usize) {
     text(out, b"<article class=\"card group\" id=\"");
     put_ids(out, k);
     text(out, b"t\"><header><p class=\"eyebrow\"><span>");
@@ -40,7 +40,7 @@ fn put_sound(out: &mut [u8; OUT], body: &[u8], list: &[usize; LIST], seen: Seen,
 }
 
 // Where a damaged entry is refused.
-fn put_refused_at(out: &mut [u8; OUT], from: usize, cause: Cause) {
+fn put_refused_at(out: &mut Out, from: usize, cause: Cause) {
     text(out, b"<p>Refused at ");
     put_places(out, from, cause.place);
     text(out, b", ");
@@ -49,7 +49,7 @@ fn put_refused_at(out: &mut [u8; OUT], from: usize, cause: Cause) {
 }
 
 // What an entry is that is no group, and why.
-fn put_wound(out: &mut [u8; OUT], seen: Seen, k: usize, kind: u8, cause: Cause) {
+fn put_wound(out: &mut Out, seen: Seen, k: usize, kind: u8, cause: Cause) {
     text(out, b"<article class=\"card wound\" id=\"");
     put_ids(out, k);
     text(
@@ -86,7 +86,7 @@ fn dump_of(list: &[usize; LIST], from: usize, k: usize, at: usize, kind: u8) -> 
 }
 
 // An entry that is no group.
-fn put_bad(out: &mut [u8; OUT], file: &[u8], list: &[usize; LIST], seen: Seen, k: usize) {
+fn put_bad(out: &mut Out, file: &[u8], list: &[usize; LIST], seen: Seen, k: usize) {
     let body = body_of(file, seen.tag, seen.length);
     let from = body_place(seen);
     let kind = kind_of(body, list, k);
@@ -104,7 +104,7 @@ fn put_bad(out: &mut [u8; OUT], file: &[u8], list: &[usize; LIST], seen: Seen, k
 }
 
 // The card of entry k.
-pub fn put_card(out: &mut [u8; OUT], file: &[u8], list: &[usize; LIST], seen: Seen, k: usize) {
+pub fn put_card(out: &mut Out, file: &[u8], list: &[usize; LIST], seen: Seen, k: usize) {
     let body = body_of(file, seen.tag, seen.length);
     if kind_of(body, list, k) == SOUND {
         put_sound(out, body, list, seen, k);

@@ -1,5 +1,6 @@
 // A style file as one HTML page, complete in itself: no script, and nothing from outside. It is written as it goes.
 #![tactic(auto)]
+
 pub mod cards;
 pub mod top;
 
@@ -7,24 +8,22 @@ use cards::put_card;
 use tool_look::list::LIST;
 use tool_look::totals::totals_of;
 use tool_look::{Seen, body_of};
-use tool_out::{OUT, text};
+use tool_out::{Out, text};
 use tool_page_css::put_foot;
 use tool_page_file::refused::put_refusal;
 use tool_page_file::sections::put_file;
 use tool_page_map::put_map;
 use top::put_top;
 
-fn put_cards(out: &mut [u8; OUT], file: &[u8], list: &[usize; LIST], seen: Seen) {
+fn put_cards(out: &mut Out, file: &[u8], list: &[usize; LIST], seen: Seen) {
     let entries = seen.count;
-    let mut k: usize = 0;
-    while k < entries {
+    for k in 0..entries {
         put_card(out, file, list, seen, k);
-        k += 1;
     }
 }
 
 // The page of a file that was looked at, under its name.
-pub fn page(out: &mut [u8; OUT], name: &[u8], file: &[u8], list: &[usize; LIST], seen: Seen) {
+pub fn page(out: &mut Out, name: &[u8], file: &[u8], list: &[usize; LIST], seen: Seen) {
     let body = body_of(file, seen.tag, seen.length);
     let totals = totals_of(body, list, seen.count);
     put_top(out, name, seen, totals);

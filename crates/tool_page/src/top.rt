@@ -1,7 +1,7 @@
 // The head of the page: what is drawn in many places of it, the name of the file, its verdict.
 use tool_look::totals::Totals;
 use tool_look::{DAMAGED, SOUND, Seen};
-use tool_out::{HTML, OUT, text, text_as};
+use tool_out::{HTML, Out, text, text_as};
 use tool_page_css::{put_css, put_patterns, put_tick, put_triangle};
 use tool_page_file::{put_summary, put_verdict};
 use tool_page_keys::{put_darks, put_lines};
@@ -11,7 +11,7 @@ use tool_page_strips::put_cells;
 const EVERY: usize = 0x3_FFFF_FFFF;
 
 // The cells of the chord types, and the keys.
-fn put_shapes(out: &mut [u8; OUT]) {
+fn put_shapes(out: &mut Out) {
     put_patterns(out);
     put_cells(out, EVERY);
     text(
@@ -28,7 +28,7 @@ fn put_shapes(out: &mut [u8; OUT]) {
 }
 
 // The sign of a verdict and its word; neither colour nor sign where it is not about a body's entries.
-fn put_badge(out: &mut [u8; OUT], seen: Seen) {
+fn put_badge(out: &mut Out, seen: Seen) {
     if seen.verdict == SOUND {
         text(out, b"sound\">");
         put_tick(out);
@@ -49,7 +49,7 @@ fn put_badge(out: &mut [u8; OUT], seen: Seen) {
     put_verdict(out, seen.verdict);
 }
 
-fn put_head(out: &mut [u8; OUT], name: &[u8], verdict: u8) {
+fn put_head(out: &mut Out, name: &[u8], verdict: u8) {
     text(
         out,
         b"<!DOCTYPE html>\n<html lang=\"en\"><head><meta charset=\"utf-8\"/><meta name=\"viewport\" content=\"width=device-width, initial-scale=1\"/><title>",
@@ -63,7 +63,7 @@ fn put_head(out: &mut [u8; OUT], name: &[u8], verdict: u8) {
     put_shapes(out);
 }
 
-pub fn put_top(out: &mut [u8; OUT], name: &[u8], seen: Seen, totals: Totals) {
+pub fn put_top(out: &mut Out, name: &[u8], seen: Seen, totals: Totals) {
     put_head(out, name, seen.verdict);
     text(out, b"<header class=\"top\"><h1>");
     text_as(out, HTML, name);

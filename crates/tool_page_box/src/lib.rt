@@ -1,14 +1,15 @@
 // An entry of the body as a box on a scale, with its number and its words.
 #![tactic(auto)]
+
 use tool_bytes::sum;
 use tool_look::list::{LIST, length_of, place_of};
 use tool_look::{Seen, body_place};
-use tool_out::{OUT, byte, count, number, place, text};
+use tool_out::{Out, byte, count, number, place, text};
 use tool_page_share::{put_middle, put_share};
 use tool_page_words::{SOUND, kind_of, put_id, put_kind, put_title};
 
 // Entries are called groups where the body is sound.
-pub fn put_entry_word(out: &mut [u8; OUT], seen: Seen) {
+pub fn put_entry_word(out: &mut Out, seen: Seen) {
     if seen.verdict == tool_look::SOUND {
         text(out, b"Group ");
         return;
@@ -17,14 +18,14 @@ pub fn put_entry_word(out: &mut [u8; OUT], seen: Seen) {
 }
 
 // `80 bytes at 70 (0x46)`, of entry k.
-pub fn put_size(out: &mut [u8; OUT], list: &[usize; LIST], seen: Seen, k: usize) {
+pub fn put_size(out: &mut Out, list: &[usize; LIST], seen: Seen, k: usize) {
     count(out, length_of(list, k), b"byte", b"bytes");
     text(out, b" at ");
     place(out, sum(body_place(seen), place_of(list, k)));
 }
 
 // What entry k is, in words.
-fn put_label(out: &mut [u8; OUT], body: &[u8], list: &[usize; LIST], seen: Seen, k: usize) {
+fn put_label(out: &mut Out, body: &[u8], list: &[usize; LIST], seen: Seen, k: usize) {
     put_entry_word(out, seen);
     number(out, sum(k, 1));
     text(out, b", ");
@@ -36,7 +37,7 @@ fn put_label(out: &mut [u8; OUT], body: &[u8], list: &[usize; LIST], seen: Seen,
 }
 
 // The number of an entry in the middle of its box, on a plain ground where the box is hatched.
-fn put_number(out: &mut [u8; OUT], kind: u8, at: usize, length: usize, of: usize, k: usize) {
+fn put_number(out: &mut Out, kind: u8, at: usize, length: usize, of: usize, k: usize) {
     if kind != SOUND {
         text(out, b"<circle class=\"pill\" cx=\"");
         put_middle(out, at, length, of);
@@ -66,7 +67,7 @@ fn is_roomy(length: usize, of: usize) -> bool {
     6 * of <= 100 * length
 }
 
-fn put_box(out: &mut [u8; OUT], kind: u8, at: usize, length: usize, of: usize) {
+fn put_box(out: &mut Out, kind: u8, at: usize, length: usize, of: usize) {
     text(out, b"<rect class=\"f-");
     put_kind(out, kind);
     text(out, b"\" x=\"");
@@ -77,14 +78,14 @@ fn put_box(out: &mut [u8; OUT], kind: u8, at: usize, length: usize, of: usize) {
 }
 
 // Where a link to entry k begins.
-pub fn put_link(out: &mut [u8; OUT], k: usize) {
+pub fn put_link(out: &mut Out, k: usize) {
     text(out, b"<a href=\"#");
     put_id(out, k);
     byte(out, b'"');
 }
 
 // Entry k in the map.
-pub fn put_entry(out: &mut [u8; OUT], body: &[u8], list: &[usize; LIST], seen: Seen, k: usize) {
+pub fn put_entry(out: &mut Out, body: &[u8], list: &[usize; LIST], seen: Seen, k: usize) {
     let kind = kind_of(body, list, k);
     let at = place_of(list, k);
     let length = length_of(list, k);

@@ -1,6 +1,7 @@
 // What is the same in every page: its style sheet, and the words at its foot. None of it names anything outside the page.
 #![tactic(auto)]
-use tool_out::{OUT, text};
+
+use tool_out::{Out, text};
 
 // Colours, light and dark, and the head of the page.
 const TOP: [u8; 1916] = *b"
@@ -166,7 +167,7 @@ const NARROW: [u8; 1973] = *b"
 ";
 
 // The style sheet.
-pub fn put_css(out: &mut [u8; OUT]) {
+pub fn put_css(out: &mut Out) {
     let top = TOP;
     text(out, &top);
     let cards = CARDS;
@@ -185,7 +186,7 @@ const FOOT: [u8; 540] = *b"</main>
 </body></html>
 ";
 
-pub fn put_foot(out: &mut [u8; OUT]) {
+pub fn put_foot(out: &mut Out) {
     let foot = FOOT;
     text(out, &foot);
 }
@@ -194,7 +195,7 @@ pub fn put_foot(out: &mut [u8; OUT]) {
 const PATTERNS: [u8; 524] =
     *b"<svg width=\"0\" height=\"0\" style=\"position:absolute\" aria-hidden=\"true\"><defs><pattern id=\"hatch\" width=\"8\" height=\"8\" patternUnits=\"userSpaceOnUse\" patternTransform=\"rotate(45)\"><rect width=\"8\" height=\"8\" style=\"fill:var(--damage-bg)\"/><rect width=\"3.4\" height=\"8\" style=\"fill:var(--damage)\"/></pattern><pattern id=\"dots\" width=\"7\" height=\"7\" patternUnits=\"userSpaceOnUse\"><rect width=\"7\" height=\"7\" style=\"fill:var(--loose-bg)\"/><circle cx=\"3.5\" cy=\"3.5\" r=\"1.7\" style=\"fill:var(--loose)\"/></pattern><g id=\"types\"><path d=\"";
 
-pub fn put_patterns(out: &mut [u8; OUT]) {
+pub fn put_patterns(out: &mut Out) {
     let patterns = PATTERNS;
     text(out, &patterns);
 }
@@ -209,17 +210,17 @@ const BROKEN: [u8; 194] =
 const LOCK: [u8; 206] =
     *b"<svg viewBox=\"0 0 10 11\" aria-hidden=\"true\"><rect x=\"1\" y=\"5\" width=\"8\" height=\"6\" rx=\"1\" fill=\"currentColor\"/><path d=\"M3 5V3.2a2 2 0 0 1 4 0V5\" fill=\"none\" stroke=\"currentColor\" stroke-width=\"1.4\"/></svg>";
 
-pub fn put_tick(out: &mut [u8; OUT]) {
+pub fn put_tick(out: &mut Out) {
     let tick = CHECK;
     text(out, &tick);
 }
 
-pub fn put_triangle(out: &mut [u8; OUT]) {
+pub fn put_triangle(out: &mut Out) {
     let triangle = BROKEN;
     text(out, &triangle);
 }
 
-pub fn put_padlock(out: &mut [u8; OUT]) {
+pub fn put_padlock(out: &mut Out) {
     let padlock = LOCK;
     text(out, &padlock);
 }

@@ -1,19 +1,20 @@
 // What the page says of the file: its verdict, its refusal, its sections.
 #![tactic(auto)]
+
 pub mod refused;
 pub mod sections;
 
 use tool_look::totals::{Totals, editions};
 use tool_look::{Seen, verdict_words};
-use tool_out::{OUT, count, number, text, word};
+use tool_out::{Out, count, number, text, word};
 use tool_words::names::edition;
 
-pub fn put_verdict(out: &mut [u8; OUT], verdict: u8) {
+pub fn put_verdict(out: &mut Out, verdict: u8) {
     let name = verdict_words(verdict);
     word(out, &name);
 }
 
-fn put_sound(out: &mut [u8; OUT], totals: Totals) {
+fn put_sound(out: &mut Out, totals: Totals) {
     count(out, totals.sound, b"group", b"groups");
     text(out, b", ");
     count(out, totals.parts, b"part", b"parts");
@@ -24,7 +25,7 @@ fn put_sound(out: &mut [u8; OUT], totals: Totals) {
     word(out, &name);
 }
 
-fn put_damaged(out: &mut [u8; OUT], entries: usize, totals: Totals) {
+fn put_damaged(out: &mut Out, entries: usize, totals: Totals) {
     if totals.damaged == 0 && totals.loose == 0 {
         text(
             out,
@@ -43,7 +44,7 @@ fn put_damaged(out: &mut [u8; OUT], entries: usize, totals: Totals) {
 }
 
 // What the body holds, or why there is none; nothing of a file that has no body and is not damaged.
-pub fn put_summary(out: &mut [u8; OUT], seen: Seen, totals: Totals) {
+pub fn put_summary(out: &mut Out, seen: Seen, totals: Totals) {
     if seen.verdict == tool_look::SOUND {
         put_sound(out, totals);
         return;

@@ -3,28 +3,26 @@ use tool_bytes::{least, rest, sum};
 use tool_dump::Dump;
 use tool_look::list::{LIST, is_sound};
 use tool_look::{Seen, body_of, body_place, file_place};
-use tool_out::{OUT, number, place, text};
+use tool_out::{Out, number, place, text};
 use tool_page_words::bytes::put_bytes;
 use tool_page_words::{put_id, put_more, put_places, put_reason_capital};
 use tool_reason::{Cause, cause_of, cause_of_entry};
 
 // The first entry that is refused at the place where its body is, or how many there are.
 fn entry_refused_at(body: &[u8], list: &[usize; LIST], entries: usize, at: usize) -> usize {
-    let mut k: usize = 0;
-    while k < entries {
+    for k in 0..entries {
         if !is_sound(list, k) {
             let cause = cause_of_entry(body, list, k);
             if cause.place == at {
                 return k;
             }
         }
-        k += 1;
     }
     entries
 }
 
 // What else there is to say, out of the bytes that the cause speaks of.
-fn put_detail_of(out: &mut [u8; OUT], file: &[u8], seen: Seen, cause: Cause) {
+fn put_detail_of(out: &mut Out, file: &[u8], seen: Seen, cause: Cause) {
     if !seen.is_body {
         put_more(out, file, cause);
         return;
@@ -32,7 +30,7 @@ fn put_detail_of(out: &mut [u8; OUT], file: &[u8], seen: Seen, cause: Cause) {
     put_more(out, body_of(file, seen.tag, seen.length), cause);
 }
 
-fn put_place_of(out: &mut [u8; OUT], seen: Seen) {
+fn put_place_of(out: &mut Out, seen: Seen) {
     if seen.is_body {
         put_places(out, body_place(seen), seen.place);
         return;
@@ -57,7 +55,7 @@ fn dump_of(file: &[u8], seen: Seen) -> Dump {
 }
 
 // The refused bytes, or where they are shown.
-fn put_bytes_of(out: &mut [u8; OUT], file: &[u8], list: &[usize; LIST], seen: Seen) {
+fn put_bytes_of(out: &mut Out, file: &[u8], list: &[usize; LIST], seen: Seen) {
     let body = body_of(file, seen.tag, seen.length);
     let k = entry_refused_at(body, list, seen.count, seen.place);
     if seen.count <= k {
@@ -71,7 +69,7 @@ fn put_bytes_of(out: &mut [u8; OUT], file: &[u8], list: &[usize; LIST], seen: Se
     text(out, b".</a></p>");
 }
 
-pub fn put_refusal(out: &mut [u8; OUT], file: &[u8], list: &[usize; LIST], seen: Seen) {
+pub fn put_refusal(out: &mut Out, file: &[u8], list: &[usize; LIST], seen: Seen) {
     let cause = cause_of(file, list, seen);
     text(
         out,

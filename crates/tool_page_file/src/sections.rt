@@ -1,11 +1,11 @@
 // The sections of a file, one by one, as far as they can be followed.
 use tool_bytes::part;
 use tool_look::{Seen, body_place};
-use tool_out::{HTML, OUT, count, hex, number, place, text, text_as};
+use tool_out::{HTML, Out, count, hex, number, place, text, text_as};
 use tool_parts::{next_section, section_length, sections_end};
 
 // A line of the table; the CASM section's stands out.
-fn put_section(out: &mut [u8; OUT], tag: &[u8], at: usize, length: usize, is_here: bool) {
+fn put_section(out: &mut Out, tag: &[u8], at: usize, length: usize, is_here: bool) {
     text(out, b"<tr");
     if is_here {
         text(out, b" class=\"here\"");
@@ -21,11 +21,10 @@ fn put_section(out: &mut [u8; OUT], tag: &[u8], at: usize, length: usize, is_her
     text(out, b"</td></tr>");
 }
 
-fn put_sections(out: &mut [u8; OUT], file: &[u8], seen: Seen) {
+fn put_sections(out: &mut Out, file: &[u8], seen: Seen) {
     let end = sections_end(file, seen);
     let mut at: usize = 0;
-    let mut left = file.len();
-    while 0 < left {
+    for _ in 0..file.len() {
         if end <= at {
             return;
         }
@@ -37,12 +36,11 @@ fn put_sections(out: &mut [u8; OUT], file: &[u8], seen: Seen) {
             seen.is_body && at == seen.tag,
         );
         at = next_section(file, at);
-        left -= 1;
     }
 }
 
 // The card with the sections and the place of the body.
-pub fn put_file(out: &mut [u8; OUT], file: &[u8], seen: Seen) {
+pub fn put_file(out: &mut Out, file: &[u8], seen: Seen) {
     text(
         out,
         b"<section class=\"card\" aria-labelledby=\"file\"><h2 id=\"file\">The file: ",

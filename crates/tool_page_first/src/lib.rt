@@ -1,27 +1,26 @@
 // How notes are placed by a channel of the first edition: one set, and the table of its Cntt.
 #![tactic(auto)]
+
 pub mod facts;
 
 use facts::{begin_fact, end_fact, put_source_chord};
-use tool_out::{OUT, text};
+use tool_out::{Out, text};
 use tool_page_keys::{put_keyboard, put_octaves};
 use tool_page_lanes::put_lane;
 use tool_page_sets::{RULE, SETTINGS, head, put_limits, put_setting};
 use tool_rows::row::{HAS_SECOND, ROWS, SECOND, byte_of};
 use tool_words::put_table;
 
-fn put_settings(out: &mut [u8; OUT], rows: &[u8; ROWS], k: usize) {
-    let mut n: usize = RULE;
-    while n < SETTINGS {
+fn put_settings(out: &mut Out, rows: &[u8; ROWS], k: usize) {
+    for n in RULE..SETTINGS {
         let name = head(n);
         begin_fact(out, &name);
         put_setting(out, rows, k, 0, n);
         end_fact(out);
-        n += 1;
     }
 }
 
-fn put_second_table(out: &mut [u8; OUT], rows: &[u8; ROWS], k: usize) {
+fn put_second_table(out: &mut Out, rows: &[u8; ROWS], k: usize) {
     if byte_of(rows, k, HAS_SECOND) == 0 {
         return;
     }
@@ -30,7 +29,7 @@ fn put_second_table(out: &mut [u8; OUT], rows: &[u8; ROWS], k: usize) {
     end_fact(out);
 }
 
-pub fn put_first(out: &mut [u8; OUT], rows: &[u8; ROWS], k: usize) {
+pub fn put_first(out: &mut Out, rows: &[u8; ROWS], k: usize) {
     text(
         out,
         b"<div class=\"keys solo\" role=\"img\" aria-label=\"Note range: ",

@@ -1,10 +1,11 @@
 // A sound group: its parts, and a row for each channel.
 #![tactic(auto)]
+
 use casm::read::group_text;
 use tool_bytes::sum;
 use tool_look::list::{LIST, entry, length_of, place_of};
 use tool_look::totals::edition_of;
-use tool_out::{HTML, OUT, byte, count, number, text, trimmed_length, word};
+use tool_out::{HTML, Out, byte, count, number, text, trimmed_length, word};
 use tool_page_css::put_padlock;
 use tool_page_first::put_first;
 use tool_page_second::put_second;
@@ -18,13 +19,13 @@ use tool_words::names::edition;
 use tool_words::{put_destination_name, put_voice};
 
 // What names row k of group g in the page.
-fn put_row_id(out: &mut [u8; OUT], g: usize, rows: &[u8; ROWS], k: usize) {
+fn put_row_id(out: &mut Out, g: usize, rows: &[u8; ROWS], k: usize) {
     put_id(out, g);
     byte(out, b'c');
     number(out, channel(rows, k));
 }
 
-fn put_name(out: &mut [u8; OUT], voice: &[u8]) {
+fn put_name(out: &mut Out, voice: &[u8]) {
     if trimmed_length(voice) == 0 {
         text(out, b"<p class=\"v none\">no name</p><p>");
         return;
@@ -34,7 +35,7 @@ fn put_name(out: &mut [u8; OUT], voice: &[u8]) {
     text(out, b"</p><p>");
 }
 
-fn put_lock(out: &mut [u8; OUT], lock: u8) {
+fn put_lock(out: &mut Out, lock: u8) {
     if lock != 1 {
         return;
     }
@@ -44,7 +45,7 @@ fn put_lock(out: &mut [u8; OUT], lock: u8) {
 }
 
 // Who plays: channel, voice, destination, lock.
-fn put_who(out: &mut [u8; OUT], g: usize, rows: &[u8; ROWS], k: usize) {
+fn put_who(out: &mut Out, g: usize, rows: &[u8; ROWS], k: usize) {
     text(out, b"<li class=\"ch\" aria-labelledby=\"");
     put_row_id(out, g, rows, k);
     text(out, b"\"><div class=\"who\"><h3 class=\"n\" id=\"");
@@ -62,7 +63,7 @@ fn put_who(out: &mut [u8; OUT], g: usize, rows: &[u8; ROWS], k: usize) {
     text(out, b"</div>");
 }
 
-fn put_channel(out: &mut [u8; OUT], g: usize, rows: &[u8; ROWS], k: usize) {
+fn put_channel(out: &mut Out, g: usize, rows: &[u8; ROWS], k: usize) {
     put_who(out, g, rows, k);
     text(out, b"<div class=\"when\">");
     put_chord_strip(out, chord_mask(rows, k));
@@ -77,21 +78,19 @@ fn put_channel(out: &mut [u8; OUT], g: usize, rows: &[u8; ROWS], k: usize) {
 }
 
 // The heads of the settings of a first edition.
-fn put_heads(out: &mut [u8; OUT]) {
+fn put_heads(out: &mut Out) {
     text(out, b"<div class=\"k3 six\">");
-    let mut n: usize = 0;
-    while n < SETTINGS {
+    for n in 0..SETTINGS {
         let name = head(n);
         text(out, b"<span>");
         word(out, &name);
         text(out, b"</span>");
-        n += 1;
     }
     text(out, b"</div>");
 }
 
 // What stands above the rows.
-fn put_key(out: &mut [u8; OUT], edition: u8) {
+fn put_key(out: &mut Out, edition: u8) {
     text(
         out,
         b"<div class=\"keyrow\" aria-hidden=\"true\"><p class=\"k1\">source channel, voice, destination</p><div>",
@@ -109,17 +108,15 @@ fn put_key(out: &mut [u8; OUT], edition: u8) {
     text(out, b"</div><ol>");
 }
 
-fn put_channels(out: &mut [u8; OUT], g: usize, rows: &[u8; ROWS], channels: usize) {
-    let mut k: usize = 0;
-    while k < channels {
+fn put_channels(out: &mut Out, g: usize, rows: &[u8; ROWS], channels: usize) {
+    for k in 0..channels {
         put_channel(out, g, rows, k);
-        k += 1;
     }
     text(out, b"</ol>");
 }
 
 // The group that is entry g, behind the words that say which it is.
-pub fn put_group(out: &mut [u8; OUT], body: &[u8], list: &[usize; LIST], from: usize, g: usize) {
+pub fn put_group(out: &mut Out, body: &[u8], list: &[usize; LIST], from: usize, g: usize) {
     let group = entry(body, list, g);
     let mut rows = tool_rows::row::room();
     let channels = read_rows(&mut rows, group, 0);

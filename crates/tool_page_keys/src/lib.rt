@@ -1,6 +1,7 @@
 // A keyboard of 128 keys, and the names of its octaves.
 #![tactic(auto)]
-use tool_out::{OUT, byte, number, text};
+
+use tool_out::{Out, byte, number, text};
 use tool_page_share::put_share;
 use tool_words::put_note;
 
@@ -19,7 +20,7 @@ fn is_parted(n: usize) -> bool {
     k == 0 || k == 5
 }
 
-fn put_line(out: &mut [u8; OUT], n: usize) {
+fn put_line(out: &mut Out, n: usize) {
     if is_dark(n) {
         byte(out, b'M');
         number(out, n);
@@ -34,15 +35,13 @@ fn put_line(out: &mut [u8; OUT], n: usize) {
 }
 
 // The lines between the light keys.
-pub fn put_lines(out: &mut [u8; OUT]) {
-    let mut n: usize = 0;
-    while n < KEYS {
+pub fn put_lines(out: &mut Out) {
+    for n in 0..KEYS {
         put_line(out, n);
-        n += 1;
     }
 }
 
-fn put_dark(out: &mut [u8; OUT], n: usize) {
+fn put_dark(out: &mut Out, n: usize) {
     if !is_dark(n) {
         return;
     }
@@ -52,15 +51,13 @@ fn put_dark(out: &mut [u8; OUT], n: usize) {
 }
 
 // The dark keys.
-pub fn put_darks(out: &mut [u8; OUT]) {
-    let mut n: usize = 0;
-    while n < KEYS {
+pub fn put_darks(out: &mut Out) {
+    for n in 0..KEYS {
         put_dark(out, n);
-        n += 1;
     }
 }
 
-pub fn put_keyboard(out: &mut [u8; OUT]) {
+pub fn put_keyboard(out: &mut Out) {
     text(
         out,
         b"<svg class=\"kb\" viewBox=\"0 0 128 20\" preserveAspectRatio=\"none\" aria-hidden=\"true\"><use href=\"#keys\"/></svg>",
@@ -68,11 +65,11 @@ pub fn put_keyboard(out: &mut [u8; OUT]) {
 }
 
 // A place on the keyboard.
-pub fn put_at(out: &mut [u8; OUT], n: usize) {
+pub fn put_at(out: &mut Out, n: usize) {
     put_share(out, n, KEYS);
 }
 
-fn put_octave(out: &mut [u8; OUT], n: usize) {
+fn put_octave(out: &mut Out, n: usize) {
     let note = OCTAVE * (n % 16);
     text(out, b"<text x=\"");
     put_at(out, note);
@@ -82,12 +79,10 @@ fn put_octave(out: &mut [u8; OUT], n: usize) {
 }
 
 // The names of the Cs.
-pub fn put_octaves(out: &mut [u8; OUT]) {
+pub fn put_octaves(out: &mut Out) {
     text(out, b"<svg class=\"oct\" aria-hidden=\"true\">");
-    let mut n: usize = 0;
-    while n < 11 {
+    for n in 0..11 {
         put_octave(out, n);
-        n += 1;
     }
     text(out, b"</svg>");
 }

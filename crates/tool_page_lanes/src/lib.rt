@@ -1,12 +1,13 @@
 // Ranges of notes, drawn below a keyboard.
 #![tactic(auto)]
+
 use tool_bytes::{rest, sum};
-use tool_out::{OUT, text, word};
+use tool_out::{Out, text, word};
 use tool_page_keys::put_at;
 use tool_page_share::put_share;
 use tool_words::names::set;
 
-fn put_bar(out: &mut [u8; OUT], low: usize, high: usize) {
+fn put_bar(out: &mut Out, low: usize, high: usize) {
     text(out, b"<rect class=\"bar\" x=\"");
     put_at(out, low);
     text(out, b"\" y=\"1\" width=\"");
@@ -15,7 +16,7 @@ fn put_bar(out: &mut [u8; OUT], low: usize, high: usize) {
 }
 
 // A low limit above the high one.
-fn put_crossed(out: &mut [u8; OUT], low: usize, high: usize) {
+fn put_crossed(out: &mut Out, low: usize, high: usize) {
     let end = sum(high, 1);
     text(out, b"<line class=\"cross\" x1=\"");
     put_at(out, end);
@@ -35,7 +36,7 @@ fn put_crossed(out: &mut [u8; OUT], low: usize, high: usize) {
 }
 
 // A range of notes, also crossed.
-pub fn put_lane(out: &mut [u8; OUT], low: u8, high: u8) {
+pub fn put_lane(out: &mut Out, low: u8, high: u8) {
     text(
         out,
         b"<svg class=\"lane\" aria-hidden=\"true\"><line class=\"base\" x1=\"0\" x2=\"100%\" y1=\"5\" y2=\"5\"/>",
@@ -49,7 +50,7 @@ pub fn put_lane(out: &mut [u8; OUT], low: u8, high: u8) {
 }
 
 // The source notes of a set, from `low` up to the one before `end`; named where there is room.
-pub fn put_zone(out: &mut [u8; OUT], which: u8, low: usize, end: usize) {
+pub fn put_zone(out: &mut Out, which: u8, low: usize, end: usize) {
     if end <= low {
         return;
     }
@@ -64,7 +65,7 @@ pub fn put_zone(out: &mut [u8; OUT], which: u8, low: usize, end: usize) {
 }
 
 // The name of a set in the middle of its notes, whose place is given in half keys.
-fn put_zone_name(out: &mut [u8; OUT], which: u8, place: usize) {
+fn put_zone_name(out: &mut Out, which: u8, place: usize) {
     text(out, b"<text x=\"");
     put_share(out, place, 256);
     text(out, b"\" y=\"11\">");

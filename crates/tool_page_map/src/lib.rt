@@ -1,24 +1,23 @@
 // The body to scale: a map of its entries, and their index.
 #![tactic(auto)]
+
 use tool_bytes::sum;
 use tool_look::list::LIST;
 use tool_look::totals::Totals;
 use tool_look::{Seen, body_place};
-use tool_out::{OUT, count, number, place, text};
+use tool_out::{Out, count, number, place, text};
 use tool_page_box::{put_entry, put_link, put_size};
 use tool_page_words::{DAMAGED, LOOSE, SOUND, kind_of, put_kind, put_kind_capital, put_title};
 
-fn put_entries(out: &mut [u8; OUT], body: &[u8], list: &[usize; LIST], seen: Seen) {
+fn put_entries(out: &mut Out, body: &[u8], list: &[usize; LIST], seen: Seen) {
     let entries = seen.count;
-    let mut k: usize = 0;
-    while k < entries {
+    for k in 0..entries {
         put_entry(out, body, list, seen, k);
-        k += 1;
     }
 }
 
 // The places at both ends of the body.
-fn put_axis(out: &mut [u8; OUT], from: usize, length: usize) {
+fn put_axis(out: &mut Out, from: usize, length: usize) {
     text(
         out,
         b"<g class=\"axis\" aria-hidden=\"true\"><text x=\"0\" y=\"57\" style=\"text-anchor:start\">",
@@ -32,7 +31,7 @@ fn put_axis(out: &mut [u8; OUT], from: usize, length: usize) {
     text(out, b"</text></g></svg>");
 }
 
-fn put_swatch(out: &mut [u8; OUT], kind: u8) {
+fn put_swatch(out: &mut Out, kind: u8) {
     text(
         out,
         b"<svg class=\"swatch\" aria-hidden=\"true\"><rect class=\"f-",
@@ -41,7 +40,7 @@ fn put_swatch(out: &mut [u8; OUT], kind: u8) {
     text(out, b"\" width=\"100%\" height=\"100%\"/></svg>");
 }
 
-fn put_many(out: &mut [u8; OUT], kind: u8, words: &[u8], many: usize) {
+fn put_many(out: &mut Out, kind: u8, words: &[u8], many: usize) {
     text(out, b"<li>");
     put_swatch(out, kind);
     text(out, words);
@@ -49,7 +48,7 @@ fn put_many(out: &mut [u8; OUT], kind: u8, words: &[u8], many: usize) {
     text(out, b"</li>");
 }
 
-fn put_legend(out: &mut [u8; OUT], totals: Totals) {
+fn put_legend(out: &mut Out, totals: Totals) {
     text(out, b"<ul class=\"legend\" aria-label=\"Legend\">");
     put_many(out, SOUND, b"sound group: ", totals.sound);
     put_many(out, DAMAGED, b"damaged entry: ", totals.damaged);
@@ -58,7 +57,7 @@ fn put_legend(out: &mut [u8; OUT], totals: Totals) {
 }
 
 // The kind of an entry that is not sound.
-fn put_bad_kind(out: &mut [u8; OUT], kind: u8) {
+fn put_bad_kind(out: &mut Out, kind: u8) {
     if kind == SOUND {
         return;
     }
@@ -70,7 +69,7 @@ fn put_bad_kind(out: &mut [u8; OUT], kind: u8) {
 }
 
 // Entry k in the index.
-fn put_line(out: &mut [u8; OUT], body: &[u8], list: &[usize; LIST], seen: Seen, k: usize) {
+fn put_line(out: &mut Out, body: &[u8], list: &[usize; LIST], seen: Seen, k: usize) {
     let kind = kind_of(body, list, k);
     text(out, b"<li>");
     put_link(out, k);
@@ -86,18 +85,16 @@ fn put_line(out: &mut [u8; OUT], body: &[u8], list: &[usize; LIST], seen: Seen, 
     text(out, b"</span></a></li>");
 }
 
-fn put_index(out: &mut [u8; OUT], body: &[u8], list: &[usize; LIST], seen: Seen) {
+fn put_index(out: &mut Out, body: &[u8], list: &[usize; LIST], seen: Seen) {
     let entries = seen.count;
-    let mut k: usize = 0;
-    while k < entries {
+    for k in 0..entries {
         put_line(out, body, list, seen, k);
-        k += 1;
     }
     text(out, b"</ol>");
 }
 
 // The card with both.
-pub fn put_map(out: &mut [u8; OUT], body: &[u8], list: &[usize; LIST], seen: Seen, totals: Totals) {
+pub fn put_map(out: &mut Out, body: &[u8], list: &[usize; LIST], seen: Seen, totals: Totals) {
     text(
         out,
         b"<section class=\"card\" aria-labelledby=\"map\"><h2 id=\"map\">The body to scale</h2><svg class=\"map\" role=\"group\" aria-label=\"Map of the body to scale: ",

@@ -1,7 +1,8 @@
 // How notes are placed by a channel of the second edition: three sets, or one for all where they are the same.
 #![tactic(auto)]
+
 use tool_bytes::sum;
-use tool_out::{OUT, byte, text};
+use tool_out::{Out, byte, text};
 use tool_page_first::facts::{put_middle_notes, put_source_chord, put_unexplained};
 use tool_page_keys::{put_keyboard, put_octaves};
 use tool_page_lanes::{put_lane, put_zone};
@@ -17,28 +18,24 @@ fn shown_sets(rows: &[u8; ROWS], k: usize) -> usize {
     3
 }
 
-fn put_zones(out: &mut [u8; OUT], rows: &[u8; ROWS], k: usize) {
-    let mut which: usize = 0;
-    while which < 3 {
+fn put_zones(out: &mut Out, rows: &[u8; ROWS], k: usize) {
+    for which in 0..3usize {
         let from = notes_from(rows, k, which);
         let end = notes_end(rows, k, which);
         put_zone(out, (which % 256) as u8, from, end);
-        which += 1;
     }
 }
 
-fn put_all_source_notes(out: &mut [u8; OUT], rows: &[u8; ROWS], k: usize) {
-    let mut which: usize = 0;
-    while which < 3 {
+fn put_all_source_notes(out: &mut Out, rows: &[u8; ROWS], k: usize) {
+    for which in 0..3usize {
         if 0 < which {
             text(out, b"; ");
         }
         put_source_notes(out, rows, k, which);
-        which += 1;
     }
 }
 
-fn put_range(out: &mut [u8; OUT], rows: &[u8; ROWS], k: usize, which: usize, shown: usize) {
+fn put_range(out: &mut Out, rows: &[u8; ROWS], k: usize, which: usize, shown: usize) {
     if 0 < which {
         text(out, b"; ");
     }
@@ -50,15 +47,13 @@ fn put_range(out: &mut [u8; OUT], rows: &[u8; ROWS], k: usize, which: usize, sho
     put_limits(out, rows, k, which);
 }
 
-fn put_ranges(out: &mut [u8; OUT], rows: &[u8; ROWS], k: usize, shown: usize) {
-    let mut which: usize = 0;
-    while which < shown {
+fn put_ranges(out: &mut Out, rows: &[u8; ROWS], k: usize, shown: usize) {
+    for which in 0..shown {
         put_range(out, rows, k, which, shown);
-        which += 1;
     }
 }
 
-fn put_lane_of(out: &mut [u8; OUT], rows: &[u8; ROWS], k: usize, which: usize, shown: usize) {
+fn put_lane_of(out: &mut Out, rows: &[u8; ROWS], k: usize, which: usize, shown: usize) {
     let at = set_place(rows, k, which);
     text(out, b"<span>");
     put_set_name(out, which, shown);
@@ -70,16 +65,14 @@ fn put_lane_of(out: &mut [u8; OUT], rows: &[u8; ROWS], k: usize, which: usize, s
     );
 }
 
-fn put_lanes(out: &mut [u8; OUT], rows: &[u8; ROWS], k: usize, shown: usize) {
-    let mut which: usize = 0;
-    while which < shown {
+fn put_lanes(out: &mut Out, rows: &[u8; ROWS], k: usize, shown: usize) {
+    for which in 0..shown {
         put_lane_of(out, rows, k, which, shown);
-        which += 1;
     }
 }
 
 // The keys with the source notes of each set and its range.
-fn put_keys(out: &mut [u8; OUT], rows: &[u8; ROWS], k: usize, shown: usize) {
+fn put_keys(out: &mut Out, rows: &[u8; ROWS], k: usize, shown: usize) {
     text(
         out,
         b"<div class=\"keys\" role=\"img\" aria-label=\"Source notes: ",
@@ -101,7 +94,7 @@ fn put_keys(out: &mut [u8; OUT], rows: &[u8; ROWS], k: usize, shown: usize) {
     text(out, b"</div>");
 }
 
-pub fn put_second(out: &mut [u8; OUT], rows: &[u8; ROWS], k: usize) {
+pub fn put_second(out: &mut Out, rows: &[u8; ROWS], k: usize) {
     let shown = shown_sets(rows, k);
     put_keys(out, rows, k, shown);
     put_sets(out, rows, k, shown);

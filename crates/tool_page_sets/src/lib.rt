@@ -1,7 +1,8 @@
 // The settings of a set of six bytes, each under its name; the sets of a record.
 #![tactic(auto)]
+
 use tool_bytes::{rest, sum};
-use tool_out::{OUT, byte, text, word};
+use tool_out::{Out, byte, text, word};
 use tool_rows::row::{ROWS, byte_of, is_second, set_place};
 use tool_words::names::{retrigger, rule, set, table_21};
 use tool_words::{put_notes, put_root, put_table};
@@ -35,12 +36,12 @@ pub const NOTES: usize = 4;
 
 pub const SETTINGS: usize = 6;
 
-fn put_rule(out: &mut [u8; OUT], value: u8) {
+fn put_rule(out: &mut Out, value: u8) {
     let name = rule(value);
     word(out, &name);
 }
 
-fn put_table_of(out: &mut [u8; OUT], rows: &[u8; ROWS], k: usize, at: usize) {
+fn put_table_of(out: &mut Out, rows: &[u8; ROWS], k: usize, at: usize) {
     let value = byte_of(rows, k, sum(at, 1));
     if is_second(rows, k) {
         put_table(out, byte_of(rows, k, at), value);
@@ -50,13 +51,13 @@ fn put_table_of(out: &mut [u8; OUT], rows: &[u8; ROWS], k: usize, at: usize) {
     word(out, &name);
 }
 
-fn put_retrigger(out: &mut [u8; OUT], value: u8) {
+fn put_retrigger(out: &mut Out, value: u8) {
     let name = retrigger(value);
     word(out, &name);
 }
 
 // The limits of a set as they stand.
-pub fn put_limits(out: &mut [u8; OUT], rows: &[u8; ROWS], k: usize, which: usize) {
+pub fn put_limits(out: &mut Out, rows: &[u8; ROWS], k: usize, which: usize) {
     let at = set_place(rows, k, which);
     put_notes(
         out,
@@ -66,7 +67,7 @@ pub fn put_limits(out: &mut [u8; OUT], rows: &[u8; ROWS], k: usize, which: usize
 }
 
 // Setting n of set number `which` of row k.
-pub fn put_setting(out: &mut [u8; OUT], rows: &[u8; ROWS], k: usize, which: usize, n: usize) {
+pub fn put_setting(out: &mut Out, rows: &[u8; ROWS], k: usize, which: usize, n: usize) {
     let at = set_place(rows, k, which);
     if n == RULE {
         put_rule(out, byte_of(rows, k, at));
@@ -120,7 +121,7 @@ pub fn notes_end(rows: &[u8; ROWS], k: usize, which: usize) -> usize {
 }
 
 // The name of a set and its source notes, in words.
-pub fn put_source_notes(out: &mut [u8; OUT], rows: &[u8; ROWS], k: usize, which: usize) {
+pub fn put_source_notes(out: &mut Out, rows: &[u8; ROWS], k: usize, which: usize) {
     let name = set((which % 256) as u8);
     word(out, &name);
     byte(out, b' ');

@@ -1,7 +1,8 @@
 // Places on a scale, in per cent with three decimals, each as a floating-point number of 64 bits would be printed.
 #![tactic(auto)]
+
 use tool_bytes::{rest, sum};
-use tool_out::{OUT, byte, number};
+use tool_out::{Out, byte, number};
 
 fn float(n: usize) -> f64 {
     std::num::nearest_u64_to_f64(n as u64)
@@ -26,14 +27,12 @@ fn above_float(odd: usize) -> usize {
     }
     let mut high = odd * 2048 / 2000;
     let mut above = odd % 2000;
-    let mut left: usize = 63;
-    while 0 < left {
+    for _ in 0..63 {
         if 1 < high {
             high = high / 2;
         } else {
             above = sum(above, above) % 2000;
         }
-        left -= 1;
     }
     above
 }
@@ -80,12 +79,12 @@ fn thousandths(n: usize, of: usize, value: f64) -> usize {
     at_half(whole, value)
 }
 
-fn put_digit(out: &mut [u8; OUT], n: usize) {
+fn put_digit(out: &mut Out, n: usize) {
     let digit = (n % 10) as u8;
     byte(out, b'0' + digit);
 }
 
-fn put_thousandths(out: &mut [u8; OUT], n: usize) {
+fn put_thousandths(out: &mut Out, n: usize) {
     number(out, n / 1000);
     byte(out, b'.');
     put_digit(out, n / 100);
@@ -95,12 +94,12 @@ fn put_thousandths(out: &mut [u8; OUT], n: usize) {
 }
 
 // n of `of`: `12.500%`.
-pub fn put_share(out: &mut [u8; OUT], n: usize, of: usize) {
+pub fn put_share(out: &mut Out, n: usize, of: usize) {
     put_thousandths(out, thousandths(n, of, per_cent(n, of)));
 }
 
 // The middle of what begins at `place` and is `length` long.
-pub fn put_middle(out: &mut [u8; OUT], place: usize, length: usize, of: usize) {
+pub fn put_middle(out: &mut Out, place: usize, length: usize, of: usize) {
     let value = per_cent(place, of) + per_cent(length, of) / 2.0;
     let twice = sum(sum(place, place), length);
     put_thousandths(out, thousandths(twice, sum(of, of), value));

@@ -1,7 +1,8 @@
 // The strips of a channel: a cell for each chord type, and the roots; filled where the channel plays.
 #![tactic(auto)]
+
 use tool_bytes::sum;
-use tool_out::{OUT, byte, number, text};
+use tool_out::{Out, byte, number, text};
 use tool_words::masks::{AUTO_START, ROOTS, TYPES, held_of, is_held, put_chords, put_mask};
 use tool_words::{put_chord, put_root};
 
@@ -30,24 +31,22 @@ fn cell_place(t: usize) -> usize {
     sum(10 * (t % 64), gaps(t))
 }
 
-fn put_cell(out: &mut [u8; OUT], t: usize) {
+fn put_cell(out: &mut Out, t: usize) {
     byte(out, b'M');
     number(out, cell_place(t));
     text(out, b".5 .5h8v13h-8z");
 }
 
 // The cells of the types that a mask holds.
-pub fn put_cells(out: &mut [u8; OUT], mask: usize) {
-    let mut t: usize = 0;
-    while t < TYPES {
+pub fn put_cells(out: &mut Out, mask: usize) {
+    for t in 0..TYPES {
         if is_held(mask, t) {
             put_cell(out, t);
         }
-        t += 1;
     }
 }
 
-fn put_type(out: &mut [u8; OUT], t: usize) {
+fn put_type(out: &mut Out, t: usize) {
     text(out, b"<text transform=\"translate(");
     number(out, sum(cell_place(t), 7));
     text(out, b".2 43) rotate(-90)\">");
@@ -56,20 +55,18 @@ fn put_type(out: &mut [u8; OUT], t: usize) {
 }
 
 // The names of the types, each above its cell.
-pub fn put_types(out: &mut [u8; OUT]) {
+pub fn put_types(out: &mut Out) {
     text(
         out,
         b"<svg class=\"strip\" viewBox=\"0 0 360 44\" aria-hidden=\"true\">",
     );
-    let mut t: usize = 0;
-    while t < TYPES {
+    for t in 0..TYPES {
         put_type(out, t);
-        t += 1;
     }
     text(out, b"</svg>");
 }
 
-fn put_held(out: &mut [u8; OUT], mask: usize) {
+fn put_held(out: &mut Out, mask: usize) {
     if held_of(mask, TYPES) == 0 {
         return;
     }
@@ -79,7 +76,7 @@ fn put_held(out: &mut [u8; OUT], mask: usize) {
 }
 
 // The chord types of a channel.
-pub fn put_chord_strip(out: &mut [u8; OUT], mask: usize) {
+pub fn put_chord_strip(out: &mut Out, mask: usize) {
     text(
         out,
         b"<svg class=\"strip\" viewBox=\"0 0 360 14\" role=\"img\" aria-label=\"Chord types: ",
@@ -95,7 +92,7 @@ pub fn put_chord_strip(out: &mut [u8; OUT], mask: usize) {
     text(out, b"</p>");
 }
 
-fn put_cell_of_root(out: &mut [u8; OUT], r: usize, is_filled: bool) {
+fn put_cell_of_root(out: &mut Out, r: usize, is_filled: bool) {
     text(out, b"<i");
     if is_filled {
         text(out, b" class=\"y\"");
@@ -105,16 +102,14 @@ fn put_cell_of_root(out: &mut [u8; OUT], r: usize, is_filled: bool) {
     text(out, b"</i>");
 }
 
-fn put_cells_of_roots(out: &mut [u8; OUT], mask: usize) {
-    let mut r: usize = 0;
-    while r < ROOTS {
+fn put_cells_of_roots(out: &mut Out, mask: usize) {
+    for r in 0..ROOTS {
         put_cell_of_root(out, r, is_held(mask, r));
-        r += 1;
     }
 }
 
 // The roots of a channel.
-pub fn put_root_strip(out: &mut [u8; OUT], mask: usize) {
+pub fn put_root_strip(out: &mut Out, mask: usize) {
     text(out, b"<div class=\"rts\" role=\"img\" aria-label=\"Roots: ");
     put_mask(out, mask, ROOTS);
     text(out, b"\">");

@@ -1,12 +1,13 @@
 // The table of a record's sets, a line for each.
 #![tactic(auto)]
-use tool_out::{OUT, byte, text, word};
+
+use tool_out::{Out, byte, text, word};
 use tool_page_sets::{NOTES, RULE, SETTINGS, head, put_setting};
 use tool_rows::row::ROWS;
 use tool_words::names::set;
 
 // What a shown set is called; `all` where there is one.
-pub fn put_set_name(out: &mut [u8; OUT], which: usize, shown: usize) {
+pub fn put_set_name(out: &mut Out, which: usize, shown: usize) {
     if shown == 1 {
         text(out, b"all");
         return;
@@ -16,7 +17,7 @@ pub fn put_set_name(out: &mut [u8; OUT], which: usize, shown: usize) {
 }
 
 // A cell of the table of sets; a rule and a range are not broken.
-fn put_cell(out: &mut [u8; OUT], rows: &[u8; ROWS], k: usize, which: usize, n: usize) {
+fn put_cell(out: &mut Out, rows: &[u8; ROWS], k: usize, which: usize, n: usize) {
     text(out, b"<td data-l=\"");
     let name = head(n);
     word(out, &name);
@@ -29,27 +30,23 @@ fn put_cell(out: &mut [u8; OUT], rows: &[u8; ROWS], k: usize, which: usize, n: u
     text(out, b"</td>");
 }
 
-fn put_set(out: &mut [u8; OUT], rows: &[u8; ROWS], k: usize, which: usize, shown: usize) {
+fn put_set(out: &mut Out, rows: &[u8; ROWS], k: usize, which: usize, shown: usize) {
     text(out, b"<tr><th scope=\"row\">");
     put_set_name(out, which, shown);
     text(out, b"</th>");
-    let mut n: usize = RULE;
-    while n < SETTINGS {
+    for n in RULE..SETTINGS {
         put_cell(out, rows, k, which, n);
-        n += 1;
     }
     text(out, b"</tr>");
 }
 
-pub fn put_sets(out: &mut [u8; OUT], rows: &[u8; ROWS], k: usize, shown: usize) {
+pub fn put_sets(out: &mut Out, rows: &[u8; ROWS], k: usize, shown: usize) {
     text(
         out,
         b"<table class=\"sets\"><thead><tr><th scope=\"col\">set</th><th scope=\"col\">rule</th><th scope=\"col\">table</th><th scope=\"col\">high key</th><th scope=\"col\">notes</th><th scope=\"col\">retrigger</th></tr></thead><tbody>",
     );
-    let mut which: usize = 0;
-    while which < shown {
+    for which in 0..shown {
         put_set(out, rows, k, which, shown);
-        which += 1;
     }
     text(out, b"</tbody></table>");
 }

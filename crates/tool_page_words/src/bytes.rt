@@ -1,15 +1,8 @@
 // Bytes in hex: in rows of 16, and for a narrow window in rows of eight.
 use tool_dump::{Dump, put_dump};
-use tool_out::{HTML, OUT, text};
+use tool_out::{HTML, Out, text};
 
-fn put_rows(
-    out: &mut [u8; OUT],
-    name: &[u8],
-    file: &[u8],
-    dump: Dump,
-    across: usize,
-    is_counted: bool,
-) {
+fn put_rows(out: &mut Out, name: &[u8], file: &[u8], dump: Dump, across: usize, is_counted: bool) {
     text(out, b"<pre class=\"");
     text(out, name);
     text(
@@ -20,7 +13,7 @@ fn put_rows(
     text(out, b"</pre>");
 }
 
-pub fn put_bytes(out: &mut [u8; OUT], file: &[u8], dump: Dump, is_counted: bool) {
+pub fn put_bytes(out: &mut Out, file: &[u8], dump: Dump, is_counted: bool) {
     put_rows(out, b"wide", file, dump, 16, is_counted);
     put_rows(out, b"narrow", file, dump, 8, is_counted);
 }

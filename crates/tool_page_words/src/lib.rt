@@ -1,11 +1,12 @@
 // What the page says of an entry in more than one place: its kind, its title, where it stands, and its bytes.
 #![tactic(auto)]
+
 pub mod bytes;
 pub mod parts;
 
 use tool_bytes::{byte_at, part, sum};
 use tool_look::list::{LIST, entry, is_loose, is_sound};
-use tool_out::{HTML, MEMORY, OUT, byte, held, place, text, text_as, word, word_as, writer};
+use tool_out::{HTML, Out, byte, fail_with, held, memory_for, place, text, text_as, word, word_as};
 use tool_parts::put_parts;
 use tool_reason::detail::{is_more, put_detail};
 use tool_reason::{Cause, cause_of_entry};
@@ -38,7 +39,7 @@ fn kind_name(kind: u8) -> [u8; 7] {
     rows[0]
 }
 
-pub fn put_kind(out: &mut [u8; OUT], kind: u8) {
+pub fn put_kind(out: &mut Out, kind: u8) {
     let name = kind_name(kind);
     word(out, &name);
 }
@@ -51,41 +52,42 @@ fn upper(b: u8) -> u8 {
     b
 }
 
-fn put_upper(out: &mut [u8; OUT], b: u8) {
+fn put_upper(out: &mut Out, b: u8) {
     let letter = [upper(b)];
     text_as(out, HTML, &letter);
 }
 
 // Words from a capital on, without the spaces that fill them up.
-fn put_capital(out: &mut [u8; OUT], words: &[u8]) {
+fn put_capital(out: &mut Out, words: &[u8]) {
     put_upper(out, byte_at(words, 0));
     word_as(out, HTML, part(words, 1, words.len()));
 }
 
-pub fn put_kind_capital(out: &mut [u8; OUT], kind: u8) {
+pub fn put_kind_capital(out: &mut Out, kind: u8) {
     let name = kind_name(kind);
     put_capital(out, &name);
 }
 
-pub fn put_reason_capital(out: &mut [u8; OUT], case: u8) {
+pub fn put_reason_capital(out: &mut Out, case: u8) {
     let words = reason(case);
     put_capital(out, &words);
 }
 
 // What else there is to say of a refusal of these bytes, as a paragraph.
-pub fn put_more(out: &mut [u8; OUT], s: &[u8], cause: Cause) {
+pub fn put_more(out: &mut Out, s: &[u8], cause: Cause) {
     if !is_more(cause) {
         return;
     }
-    let mut memory = writer(MEMORY);
+    let mut memory = memory_for(out);
     put_detail(&mut memory, s, cause);
     text(out, b"<p class=\"detail\">");
     put_capital(out, held(&memory));
     text(out, b"</p>");
+    fail_with(out, &memory);
 }
 
 // The parts of a group, or why an entry is none.
-pub fn put_title(out: &mut [u8; OUT], body: &[u8], list: &[usize; LIST], k: usize) {
+pub fn put_title(out: &mut Out, body: &[u8], list: &[usize; LIST], k: usize) {
     if is_sound(list, k) {
         put_parts(out, HTML, casm::read::group_text(entry(body, list, k), 0));
         return;
@@ -95,7 +97,7 @@ pub fn put_title(out: &mut [u8; OUT], body: &[u8], list: &[usize; LIST], k: usiz
 }
 
 // A place of a body, in the file and in the body.
-pub fn put_places(out: &mut [u8; OUT], from: usize, at: usize) {
+pub fn put_places(out: &mut Out, from: usize, at: usize) {
     place(out, sum(from, at));
     text(out, b" in the file, ");
     place(out, at);
@@ -103,14 +105,14 @@ pub fn put_places(out: &mut [u8; OUT], from: usize, at: usize) {
 }
 
 // How many bytes, and where in the body.
-pub fn put_where(out: &mut [u8; OUT], from: usize, at: usize, length: usize) {
+pub fn put_where(out: &mut Out, from: usize, at: usize, length: usize) {
     tool_out::count(out, length, b"byte", b"bytes");
     text(out, b" at ");
     put_places(out, from, at);
 }
 
 // What names entry k in the page: `e1` for the first.
-pub fn put_id(out: &mut [u8; OUT], k: usize) {
+pub fn put_id(out: &mut Out, k: usize) {
     byte(out, b'e');
     tool_out::number(out, sum(k, 1));
 }

@@ -1,19 +1,18 @@
 // The part names of a group for people, and the sections of a file one by one.
 #![tactic(auto)]
+
 use casm::read::read_section;
 use layout::refusal::{CUT, TAG_AGAIN};
 use tool_bytes::{byte_at, part, rest, sum};
 use tool_look::{NO_STYLE, Seen};
-use tool_out::{OUT, byte, text, text_as};
+use tool_out::{Out, byte, text, text_as};
 use tool_reason::detail::name_end;
 
 fn has_quote(name: &[u8]) -> bool {
-    let mut i: usize = 0;
-    while i < name.len() {
+    for i in 0..name.len() {
         if name[i] == b'"' {
             return true;
         }
-        i += 1;
     }
     false
 }
@@ -29,7 +28,7 @@ fn is_quoted(name: &[u8]) -> bool {
     has_quote(name)
 }
 
-pub fn put_part(out: &mut [u8; OUT], how: u8, name: &[u8]) {
+pub fn put_part(out: &mut Out, how: u8, name: &[u8]) {
     if !is_quoted(name) {
         text_as(out, how, name);
         return;
@@ -40,11 +39,10 @@ pub fn put_part(out: &mut [u8; OUT], how: u8, name: &[u8]) {
 }
 
 // The names of a list, a comma and a space between two.
-pub fn put_parts(out: &mut [u8; OUT], how: u8, list: &[u8]) {
+pub fn put_parts(out: &mut Out, how: u8, list: &[u8]) {
     let end = list.len();
     let mut from: usize = 0;
-    let mut left = sum(end, 1);
-    while 0 < left {
+    for _ in 0..sum(end, 1) {
         let ended = name_end(list, from, end);
         put_part(out, how, part(list, from, rest(ended, from)));
         if end <= ended {
@@ -52,7 +50,6 @@ pub fn put_parts(out: &mut [u8; OUT], how: u8, list: &[u8]) {
         }
         text(out, b", ");
         from = sum(ended, 1);
-        left -= 1;
     }
 }
 
@@ -85,12 +82,12 @@ pub fn section_length(file: &[u8], tag: usize) -> usize {
 }
 
 // The tag of a section as it is shown.
-pub fn put_tag(out: &mut [u8; OUT], how: u8, file: &[u8], tag: usize) {
+pub fn put_tag(out: &mut Out, how: u8, file: &[u8], tag: usize) {
     text_as(out, how, part(file, tag, 4));
 }
 
 // A text in quotes, as JSON has it.
-pub fn put_json(out: &mut [u8; OUT], words: &[u8]) {
+pub fn put_json(out: &mut Out, words: &[u8]) {
     byte(out, b'"');
     text_as(out, tool_out::JSON, words);
     byte(out, b'"');

@@ -1,15 +1,16 @@
 // What of a channel's record places a note: its set, and the set's rule, table, high key, limits and retrigger.
 #![tactic(auto)]
+
 use ask_place::choose::{effective_table, set_of_ctb2};
 use layout::record::SecondTable;
 use layout::size::SECOND_RECORD;
 use tool_bytes::sum;
-use tool_out::{OUT, end_line, padded, text, word};
+use tool_out::{Out, end_line, padded, text, word};
 use tool_rows::row::{HAS_SECOND, ROWS, SECOND, byte_of, is_second, set_place};
 use tool_words::{names, put_notes, put_root, put_source, put_table};
 
 // What a fact is called, before it.
-fn put_label(out: &mut [u8; OUT], label: &[u8]) {
+fn put_label(out: &mut Out, label: &[u8]) {
     text(out, b"  ");
     padded(out, label, 11);
 }
@@ -39,7 +40,7 @@ fn set_used(rows: &[u8; ROWS], k: usize, note: u8) -> u8 {
     set_number(rows, k, note)
 }
 
-fn put_set(out: &mut [u8; OUT], rows: &[u8; ROWS], k: usize, set: u8) {
+fn put_set(out: &mut Out, rows: &[u8; ROWS], k: usize, set: u8) {
     if !is_second(rows, k) {
         return;
     }
@@ -60,7 +61,7 @@ fn second_of(rows: &[u8; ROWS], k: usize) -> SecondTable {
 }
 
 // The table of a Ctab that is in effect, and of byte 21 what it adds.
-fn put_effective(out: &mut [u8; OUT], rows: &[u8; ROWS], k: usize, rule: u8, table: u8) {
+fn put_effective(out: &mut Out, rows: &[u8; ROWS], k: usize, rule: u8, table: u8) {
     if 5 < table {
         return;
     }
@@ -81,7 +82,7 @@ fn put_effective(out: &mut [u8; OUT], rows: &[u8; ROWS], k: usize, rule: u8, tab
     }
 }
 
-fn put_table_of(out: &mut [u8; OUT], rows: &[u8; ROWS], k: usize, rule: u8, table: u8) {
+fn put_table_of(out: &mut Out, rows: &[u8; ROWS], k: usize, rule: u8, table: u8) {
     put_label(out, b"table");
     if is_second(rows, k) {
         put_table(out, rule, table);
@@ -92,7 +93,7 @@ fn put_table_of(out: &mut [u8; OUT], rows: &[u8; ROWS], k: usize, rule: u8, tabl
 }
 
 // The facts that come after the table: from byte `at` of row k on the set stands.
-fn put_limits(out: &mut [u8; OUT], rows: &[u8; ROWS], k: usize, at: usize) {
+fn put_limits(out: &mut Out, rows: &[u8; ROWS], k: usize, at: usize) {
     put_label(out, b"high key");
     put_root(out, byte_of(rows, k, sum(at, 2)));
     end_line(out);
@@ -110,7 +111,7 @@ fn put_limits(out: &mut [u8; OUT], rows: &[u8; ROWS], k: usize, at: usize) {
 }
 
 // The facts of row k for a note, a line each.
-pub fn put_facts(out: &mut [u8; OUT], rows: &[u8; ROWS], k: usize, note: u8) {
+pub fn put_facts(out: &mut Out, rows: &[u8; ROWS], k: usize, note: u8) {
     let set = set_used(rows, k, note);
     let at = set_place(rows, k, set as usize);
     let rule = byte_of(rows, k, at);

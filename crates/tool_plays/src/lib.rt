@@ -1,11 +1,12 @@
 // `casm plays` for people: who plays under a chord; and of a part alone, how many play under each.
 
 #![tactic(auto)]
+
 use casm::read::find_part;
 use tool_bytes::rest;
 use tool_chord::put_name;
 pub use tool_matrix::plays_matrix;
-use tool_out::{MEMORY, OUT, SHOWN, clear, count, end_line, number, text, text_as, writer};
+use tool_out::{Out, SHOWN, clear, count, end_line, fail_with, memory_for, number, text, text_as};
 use tool_rows::read_rows;
 use tool_rows::row::{ROWS, byte_of, channel, room, voice};
 use tool_table::row::put_row;
@@ -14,7 +15,7 @@ use tool_who::{MARKS, is_marked, mark_playing, no_marks, put_why};
 use tool_words::{put_destination, put_voice_or_none};
 
 // A question: the chord, and whether those are told of that play or those that do not.
-#[derive(Drop)]
+#[derive(Clone, Copy)]
 struct Asked {
     root: u8,
     kind: u8,
@@ -24,7 +25,7 @@ struct Asked {
 const RIGHTS: [bool; COLUMNS] = [true, false, false, false, false, false, false, false];
 
 // The cells of the head.
-fn fill_head(row: &mut [u8; OUT]) {
+fn fill_head(row: &mut Out) {
     clear(row);
     text(row, b"ch");
     next_cell(row);
@@ -34,7 +35,7 @@ fn fill_head(row: &mut [u8; OUT]) {
 }
 
 // The cells of the channel of row k: where it does not play, why.
-fn fill_row(row: &mut [u8; OUT], rows: &[u8; ROWS], k: usize, asked: Asked) {
+fn fill_row(row: &mut Out, rows: &[u8; ROWS], k: usize, asked: Asked) {
     clear(row);
     number(row, channel(rows, k));
     next_cell(row);
@@ -53,23 +54,23 @@ fn is_told(rows: &[u8; ROWS], k: usize, marks: &[u8; MARKS], asked: Asked) -> bo
 }
 
 fn measure_rows(
+    out: &mut Out,
     widths: &mut [usize; COLUMNS],
     rows: &[u8; ROWS],
     many: usize,
     marks: &[u8; MARKS],
     asked: Asked,
 ) {
-    let mut row = writer(MEMORY);
+    let mut row = memory_for(out);
     fill_head(&mut row);
     measure(widths, &row);
-    let mut k: usize = 0;
-    while k < many {
+    for k in 0..many {
         if is_told(rows, k, marks, asked) {
             fill_row(&mut row, rows, k, asked);
             measure(widths, &row);
         }
-        k += 1;
     }
+    fail_with(out, &row);
     limit(widths, 0, 2);
     limit(widths, 1, 16);
     limit(widths, 2, 13);
@@ -77,45 +78,39 @@ fn measure_rows(
 }
 
 fn put_rows(
-    out: &mut [u8; OUT],
+    out: &mut Out,
     widths: &[usize; COLUMNS],
     rows: &[u8; ROWS],
     many: usize,
     marks: &[u8; MARKS],
     asked: Asked,
 ) {
-    let mut row = writer(MEMORY);
-    let mut k: usize = 0;
-    while k < many {
+    let mut row = memory_for(out);
+    for k in 0..many {
         if is_told(rows, k, marks, asked) {
             fill_row(&mut row, rows, k, asked);
             put_row(out, &row, widths, 2, RIGHTS);
         }
-        k += 1;
     }
+    fail_with(out, &row);
 }
 
 // What stands above the rows.
-fn put_head(out: &mut [u8; OUT], widths: &[usize; COLUMNS], is_playing: bool) {
+fn put_head(out: &mut Out, widths: &[usize; COLUMNS], is_playing: bool) {
     if is_playing {
-        let mut row = writer(MEMORY);
+        let mut row = memory_for(out);
         fill_head(&mut row);
         put_row(out, &row, widths, 2, RIGHTS);
+        fail_with(out, &row);
         return;
     }
     text(out, b"\n  Not under this chord\n");
 }
 
 // Those that play, or those that do not.
-fn put_those(
-    out: &mut [u8; OUT],
-    rows: &[u8; ROWS],
-    many: usize,
-    marks: &[u8; MARKS],
-    asked: Asked,
-) {
+fn put_those(out: &mut Out, rows: &[u8; ROWS], many: usize, marks: &[u8; MARKS], asked: Asked) {
     let mut widths = [0usize; COLUMNS];
-    measure_rows(&mut widths, rows, many, marks, asked);
+    measure_rows(out, &mut widths, rows, many, marks, asked);
     put_head(out, &widths, asked.is_playing);
     put_rows(out, &widths, rows, many, marks, asked);
 }
@@ -129,7 +124,7 @@ fn asked_of(root: u8, kind: u8, is_playing: bool) -> Asked {
 }
 
 // Who plays in a part under a chord, and of the others why not. The part is one of the body's.
-pub fn plays_chord(out: &mut [u8; OUT], body: &[u8], name: &[u8], root: u8, kind: u8) {
+pub fn plays_chord(out: &mut Out, body: &[u8], name: &[u8], root: u8, kind: u8) {
     let named = find_part(body, name);
     let mut rows = room();
     let many = read_rows(&mut rows, body, named.group);

@@ -1,25 +1,26 @@
 // `casm plays --json`: who plays under a chord, and how many under each, as one object.
 #![tactic(auto)]
+
 pub mod matrix;
 
 use casm::read::find_part;
 pub use matrix::matrix_json;
 use tool_bytes::sum;
-use tool_out::{JSON, OUT, end_line, number, text, text_as};
+use tool_out::{JSON, Out, end_line, number, text, text_as};
 use tool_rows::read_rows;
 use tool_rows::row::{ROWS, byte_of, channel, room, voice};
 use tool_who::{MARKS, is_marked, mark_playing, no_marks};
 use tool_words::{put_chord, put_destination_name, put_root, put_voice};
 
 // What stands between two of a list.
-pub(crate) fn part_from(out: &mut [u8; OUT], before: usize) {
+pub(crate) fn part_from(out: &mut Out, before: usize) {
     if 0 < before {
         text(out, b",");
     }
 }
 
 // The file and the part, behind the opening brace.
-pub(crate) fn put_file(out: &mut [u8; OUT], file: &[u8], name: &[u8]) {
+pub(crate) fn put_file(out: &mut Out, file: &[u8], name: &[u8]) {
     text(out, b"{\"file\":\"");
     text_as(out, JSON, file);
     text(out, b"\",\"part\":\"");
@@ -28,7 +29,7 @@ pub(crate) fn put_file(out: &mut [u8; OUT], file: &[u8], name: &[u8]) {
 }
 
 // The channel of row k.
-fn put_channel(out: &mut [u8; OUT], rows: &[u8; ROWS], k: usize) {
+fn put_channel(out: &mut Out, rows: &[u8; ROWS], k: usize) {
     let to = byte_of(rows, k, 9);
     text(out, b"{\"channel\":");
     number(out, channel(rows, k));
@@ -41,21 +42,19 @@ fn put_channel(out: &mut [u8; OUT], rows: &[u8; ROWS], k: usize) {
     text(out, b"\"}");
 }
 
-fn put_playing(out: &mut [u8; OUT], rows: &[u8; ROWS], many: usize, marks: &[u8; MARKS]) {
+fn put_playing(out: &mut Out, rows: &[u8; ROWS], many: usize, marks: &[u8; MARKS]) {
     let mut before: usize = 0;
-    let mut k: usize = 0;
-    while k < many {
+    for k in 0..many {
         if is_marked(marks, rows, k) {
             part_from(out, before);
             put_channel(out, rows, k);
             before = sum(before, 1);
         }
-        k += 1;
     }
 }
 
 // Who plays in a part under a chord. The part is one of the body's.
-pub fn plays_json(out: &mut [u8; OUT], file: &[u8], body: &[u8], name: &[u8], root: u8, kind: u8) {
+pub fn plays_json(out: &mut Out, file: &[u8], body: &[u8], name: &[u8], root: u8, kind: u8) {
     let named = find_part(body, name);
     let mut rows = room();
     let many = read_rows(&mut rows, body, named.group);

@@ -2,24 +2,24 @@
 use crate::{Cause, parent_end, range};
 use casm::read::{find_part, find_place};
 use tool_bytes::{byte_at, is_tag, part, rest, sum, word_at};
-use tool_out::{OUT, SHOWN, byte, count, number, text, text_as};
+use tool_out::{Out, SHOWN, byte, count, number, text, text_as};
 use tool_words::fields::put_field;
 use tool_words::reasons;
 
-fn put_left(out: &mut [u8; OUT], n: usize) {
+fn put_left(out: &mut Out, n: usize) {
     count(out, n, b"byte is", b"bytes are");
     text(out, b" left");
 }
 
 // A length, and what is left for it behind its header at place q.
-fn put_lengths(out: &mut [u8; OUT], s: &[u8], q: usize, end: usize) {
+fn put_lengths(out: &mut Out, s: &[u8], q: usize, end: usize) {
     text(out, b"the length says ");
     count(out, word_at(s, sum(q, 4)), b"byte", b"bytes");
     text(out, b", ");
     put_left(out, rest(end, sum(q, 8)));
 }
 
-fn put_tag(out: &mut [u8; OUT], s: &[u8], q: usize) {
+fn put_tag(out: &mut Out, s: &[u8], q: usize) {
     text_as(out, SHOWN, part(s, q, 4));
 }
 
@@ -34,7 +34,7 @@ fn wanted(s: &[u8], q: usize) -> usize {
     layout::size::CNTT_BYTES
 }
 
-fn put_size(out: &mut [u8; OUT], s: &[u8], q: usize) {
+fn put_size(out: &mut Out, s: &[u8], q: usize) {
     text(out, b"the length of this ");
     put_tag(out, s, q);
     text(out, b" says ");
@@ -54,7 +54,7 @@ fn chunk_of(s: &[u8], chunk: usize) -> u8 {
     range::CTAB
 }
 
-fn put_name(out: &mut [u8; OUT], chunk: u8, k: usize) {
+fn put_name(out: &mut Out, chunk: u8, k: usize) {
     if chunk == range::CNTT && 0 < k {
         text(out, b"second table");
         return;
@@ -63,7 +63,7 @@ fn put_name(out: &mut [u8; OUT], chunk: u8, k: usize) {
 }
 
 // The byte at place q of a piece that is out of its range, its field, and the values that it may have.
-fn put_byte(out: &mut [u8; OUT], piece: &[u8], q: usize) {
+fn put_byte(out: &mut Out, piece: &[u8], q: usize) {
     let sited = find_place(piece, q);
     let tag = sited.chunk;
     let k = rest(q, sum(tag, 8));
@@ -81,24 +81,21 @@ fn put_byte(out: &mut [u8; OUT], piece: &[u8], q: usize) {
 
 // The end of the name that begins at `from`: at a comma, or at the text's end.
 pub fn name_end(s: &[u8], from: usize, end: usize) -> usize {
-    let mut i = from;
-    while i < end {
+    for i in from..end {
         if byte_at(s, i) == b',' {
             return i;
         }
-        i += 1;
     }
     end
 }
 
 // The first part name of the group at `start` that a group before it has, where there is one.
-fn put_part(out: &mut [u8; OUT], body: &[u8], start: usize) {
+fn put_part(out: &mut Out, body: &[u8], start: usize) {
     let before = part(body, 0, start);
     let first = sum(start, 16);
     let end = sum(first, word_at(body, sum(start, 12)));
     let mut from = first;
-    let mut left: usize = 256;
-    while 0 < left {
+    for _ in 0..256 {
         let ended = name_end(body, from, end);
         let name = part(body, from, rest(ended, from));
         let found = find_part(before, name);
@@ -109,7 +106,6 @@ fn put_part(out: &mut [u8; OUT], body: &[u8], start: usize) {
             return;
         }
         from = sum(ended, 1);
-        left -= 1;
     }
 }
 
@@ -126,7 +122,7 @@ pub fn is_more(cause: Cause) -> bool {
 }
 
 // What it is, in the bytes of a group or of a section.
-fn put_in(out: &mut [u8; OUT], case: u8, piece: &[u8], q: usize) {
+fn put_in(out: &mut Out, case: u8, piece: &[u8], q: usize) {
     if case == reasons::HEADER_CUT {
         put_left(out, rest(parent_end(piece, q), q));
         return;
@@ -149,7 +145,7 @@ fn put_in(out: &mut [u8; OUT], case: u8, piece: &[u8], q: usize) {
 }
 
 // What there is to say of a refusal of these bytes, a file's or a body's.
-pub fn put_detail(out: &mut [u8; OUT], s: &[u8], cause: Cause) {
+pub fn put_detail(out: &mut Out, s: &[u8], cause: Cause) {
     if cause.case == reasons::NAME_AGAIN {
         put_part(out, s, cause.start);
         return;

@@ -1,5 +1,6 @@
 // Why a file, a body or an entry of it is refused: which case of the refusal it is, told from the bytes at its place, and what there is to say of it.
 #![tactic(auto)]
+
 pub mod detail;
 pub mod range;
 
@@ -11,7 +12,7 @@ use tool_look::{Seen, body_of};
 use tool_words::reasons;
 
 // A refusal: its number, its case, and its place in the bytes that it speaks of, a file's or a body's. The group or the section that it stands in begins at `start`, and what it must not run past ends at `end`.
-#[derive(Drop)]
+#[derive(Clone, Copy)]
 pub struct Cause {
     pub number: u8,
     pub case: u8,
@@ -161,15 +162,13 @@ pub fn cause_of_entry(body: &[u8], list: &[usize; LIST], k: usize) -> Cause {
 // Where the group begins in which a place of a body is refused: the groups before it are sound.
 fn group_start(body: &[u8], place: usize) -> usize {
     let mut at: usize = 0;
-    let mut left = body.len();
-    while 0 < left {
+    for _ in 0..body.len() {
         let judged = judge_entry(part(body, at, rest(body.len(), at)));
         let next = sum(at, judged.length);
         if judged.number != 0 || place < next {
             return at;
         }
         at = next;
-        left -= 1;
     }
     at
 }
@@ -188,12 +187,10 @@ fn strict_cause(body: &[u8], number: u8, place: usize) -> Cause {
 
 // The entry that has a place, or how many there are.
 fn entry_with(list: &[usize; LIST], count: usize, place: usize) -> usize {
-    let mut k: usize = 0;
-    while k < count {
+    for k in 0..count {
         if place < sum(place_of(list, k), length_of(list, k)) {
             return k;
         }
-        k += 1;
     }
     count
 }

@@ -1,6 +1,6 @@
 // The values that a byte may have, in words, asked of the library's own tables of ranges: `00H-02H or 80H-82H`.
 use tool_bytes::sum;
-use tool_out::{OUT, text};
+use tool_out::{Out, text};
 
 // The chunks that have ranges.
 pub const CTAB: u8 = 0;
@@ -10,7 +10,7 @@ pub const CTB2: u8 = 1;
 pub const CNTT: u8 = 2;
 
 // A range of values; none where the lowest is 256.
-#[derive(Drop)]
+#[derive(Clone, Copy)]
 struct Span {
     low: usize,
     high: usize,
@@ -35,12 +35,10 @@ fn is_allowed(chunk: u8, k: usize, rule: u8, value: u8) -> bool {
 
 // The first value from `from` on that is allowed, or that is not; 256 where there is none.
 fn first_value(chunk: u8, k: usize, rule: u8, from: usize, is_sought: bool) -> usize {
-    let mut v = from;
-    while v < 256 {
+    for v in from..256 {
         if is_allowed(chunk, k, rule, (v % 256) as u8) == is_sought {
             return v;
         }
-        v += 1;
     }
     256
 }
@@ -54,12 +52,12 @@ fn next_span(chunk: u8, k: usize, rule: u8, from: usize) -> Span {
 }
 
 // A byte in hex as the documents write it: `7FH`.
-pub fn put_value(out: &mut [u8; OUT], value: usize) {
+pub fn put_value(out: &mut Out, value: usize) {
     tool_out::upper_pair(out, (value % 256) as u8);
     text(out, b"H");
 }
 
-fn put_span(out: &mut [u8; OUT], span: Span) {
+fn put_span(out: &mut Out, span: Span) {
     put_value(out, span.low);
     if sum(span.low, 1) < span.high {
         text(out, b"-");
@@ -68,7 +66,7 @@ fn put_span(out: &mut [u8; OUT], span: Span) {
 }
 
 // What stands before a range: nothing before the first, and `or` before the last.
-fn put_between(out: &mut [u8; OUT], before: usize, is_last: bool) {
+fn put_between(out: &mut Out, before: usize, is_last: bool) {
     if before == 0 {
         return;
     }
@@ -80,11 +78,10 @@ fn put_between(out: &mut [u8; OUT], before: usize, is_last: bool) {
 }
 
 // The ranges of byte k of a chunk, behind the byte `rule`.
-pub fn put_ranges(out: &mut [u8; OUT], chunk: u8, k: usize, rule: u8) {
+pub fn put_ranges(out: &mut Out, chunk: u8, k: usize, rule: u8) {
     let mut from: usize = 0;
     let mut before: usize = 0;
-    let mut left: usize = 129;
-    while 0 < left {
+    for _ in 0..129 {
         let span = next_span(chunk, k, rule, from);
         if 255 < span.low {
             return;
@@ -94,6 +91,5 @@ pub fn put_ranges(out: &mut [u8; OUT], chunk: u8, k: usize, rule: u8) {
         put_span(out, span);
         from = span.high;
         before = sum(before, 1);
-        left -= 1;
     }
 }

@@ -6,13 +6,13 @@ use tool_look::list::LIST;
 use tool_look::totals::{Totals, editions, totals_of};
 use tool_look::{DAMAGED, NO_CASM, SOUND, Seen, body_of, body_place, file_place};
 use tool_out::{
-    OUT, PLAIN, SHOWN, clear, count, end_line, fill, number, place, text, text_as, word,
+    Out, PLAIN, SHOWN, clear, count, end_line, fill, number, place, text, text_as, word,
 };
 use tool_reason::cause_of;
 use tool_table::cut::put_wrapped;
 use tool_words::names;
 
-fn put_sound(out: &mut [u8; OUT], totals: Totals) {
+fn put_sound(out: &mut Out, totals: Totals) {
     count(out, totals.sound, b"group", b"groups");
     text(out, b", ");
     count(out, totals.parts, b"part", b"parts");
@@ -23,7 +23,7 @@ fn put_sound(out: &mut [u8; OUT], totals: Totals) {
     word(out, &name);
 }
 
-fn put_damaged(out: &mut [u8; OUT], seen: Seen, totals: Totals) {
+fn put_damaged(out: &mut Out, seen: Seen, totals: Totals) {
     if sum(totals.damaged, totals.loose) == 0 {
         text(
             out,
@@ -42,7 +42,7 @@ fn put_damaged(out: &mut [u8; OUT], seen: Seen, totals: Totals) {
 }
 
 // What a file is, in a line; nothing of a file without CASM, and of one that is no style file.
-pub fn put_summary(out: &mut [u8; OUT], file: &[u8], list: &[usize; LIST], seen: Seen) {
+pub fn put_summary(out: &mut Out, file: &[u8], list: &[usize; LIST], seen: Seen) {
     if seen.verdict == SOUND {
         let body = body_of(file, seen.tag, seen.length);
         put_sound(out, totals_of(body, list, seen.count));
@@ -59,7 +59,7 @@ pub fn put_summary(out: &mut [u8; OUT], file: &[u8], list: &[usize; LIST], seen:
 }
 
 // The verdict as the first line has it.
-fn put_verdict(out: &mut [u8; OUT], verdict: u8) {
+fn put_verdict(out: &mut Out, verdict: u8) {
     if verdict == SOUND {
         text(out, b"SOUND");
         return;
@@ -72,7 +72,7 @@ fn put_verdict(out: &mut [u8; OUT], verdict: u8) {
     word(out, &words);
 }
 
-pub fn put_head(out: &mut [u8; OUT], name: &[u8], file: &[u8], list: &[usize; LIST], seen: Seen) {
+pub fn put_head(out: &mut Out, name: &[u8], file: &[u8], list: &[usize; LIST], seen: Seen) {
     text_as(out, SHOWN, name);
     text(out, b": ");
     put_verdict(out, seen.verdict);
@@ -85,7 +85,7 @@ pub fn put_head(out: &mut [u8; OUT], name: &[u8], file: &[u8], list: &[usize; LI
 }
 
 // Its place in the file, and in the body where there is one, and 32 bytes from there on.
-fn put_there(out: &mut [u8; OUT], words: &mut [u8; OUT], file: &[u8], seen: Seen) {
+fn put_there(out: &mut Out, words: &mut Out, file: &[u8], seen: Seen) {
     let at = file_place(seen);
     clear(words);
     text(words, b"at ");
@@ -117,13 +117,7 @@ pub fn dump_of(file: &[u8], seen: Seen) -> Dump {
 }
 
 // The refusal, where there is one; that there is no CASM is said already.
-pub fn put_refused(
-    out: &mut [u8; OUT],
-    words: &mut [u8; OUT],
-    file: &[u8],
-    list: &[usize; LIST],
-    seen: Seen,
-) {
+pub fn put_refused(out: &mut Out, words: &mut Out, file: &[u8], list: &[usize; LIST], seen: Seen) {
     if seen.verdict == SOUND || seen.verdict == NO_CASM {
         return;
     }

@@ -1,5 +1,6 @@
 // `casm report`: the file as a person reads it. The verdict first, then the refusal with its bytes, the entries, the sections, and each entry in full.
 #![tactic(auto)]
+
 pub mod head;
 pub mod listing;
 
@@ -8,28 +9,26 @@ use listing::{put_listing, put_sections};
 use tool_entries::put_entry;
 use tool_look::list::LIST;
 use tool_look::{Seen, body_of};
-use tool_out::{MEMORY, OUT, writer};
+use tool_out::{Out, fail_with, memory_for};
 use tool_rows::row::ROWS;
 
 fn put_entries(
-    out: &mut [u8; OUT],
-    words: &mut [u8; OUT],
+    out: &mut Out,
+    words: &mut Out,
     rows: &mut [u8; ROWS],
     file: &[u8],
     list: &[usize; LIST],
     seen: Seen,
 ) {
     let body = body_of(file, seen.tag, seen.length);
-    let mut k: usize = 0;
-    while k < seen.count {
+    for k in 0..seen.count {
         put_entry(out, words, rows, file, body, list, seen, k);
-        k += 1;
     }
 }
 
 // The report of a file that was looked at.
-pub fn report(out: &mut [u8; OUT], name: &[u8], file: &[u8], list: &[usize; LIST], seen: Seen) {
-    let mut words = writer(MEMORY);
+pub fn report(out: &mut Out, name: &[u8], file: &[u8], list: &[usize; LIST], seen: Seen) {
+    let mut words = memory_for(out);
     let mut rows = tool_rows::row::room();
     put_head(out, name, file, list, seen);
     put_refused(out, &mut words, file, list, seen);
@@ -38,4 +37,5 @@ pub fn report(out: &mut [u8; OUT], name: &[u8], file: &[u8], list: &[usize; LIST
     }
     put_sections(out, &mut words, file, seen);
     put_entries(out, &mut words, &mut rows, file, list, seen);
+    fail_with(out, &words);
 }

@@ -4,7 +4,7 @@ use tool_bytes::sum;
 use tool_look::list::{LIST, entry, is_loose, is_sound, length_of, place_of};
 use tool_look::totals::channels_of;
 use tool_look::{SOUND, Seen, body_of, body_place};
-use tool_out::{OUT, PLAIN, SHOWN, clear, count, hex, number, place, text};
+use tool_out::{Out, PLAIN, SHOWN, clear, count, hex, number, place, text};
 use tool_parts::{next_section, put_parts, put_tag, section_length, sections_end};
 use tool_reason::cause_of_entry;
 use tool_table::row::put_row;
@@ -17,7 +17,7 @@ const ENTRY_RIGHTS: [bool; COLUMNS] = [true, true, true, true, false, false, fal
 
 const SECTION_RIGHTS: [bool; COLUMNS] = [false, true, true, true, false, false, false, false];
 
-fn listing_head(row: &mut [u8; OUT], seen: Seen) {
+fn listing_head(row: &mut Out, seen: Seen) {
     clear(row);
     if seen.verdict == SOUND {
         text(row, b"no.\0place\0hex\0length\0channels\0parts");
@@ -27,7 +27,7 @@ fn listing_head(row: &mut [u8; OUT], seen: Seen) {
 }
 
 // A place and a length, in two cells and one.
-fn put_bounds(row: &mut [u8; OUT], at: usize, length: usize) {
+fn put_bounds(row: &mut Out, at: usize, length: usize) {
     number(row, at);
     next_cell(row);
     hex(row, at);
@@ -37,7 +37,7 @@ fn put_bounds(row: &mut [u8; OUT], at: usize, length: usize) {
 }
 
 // The kind of an entry that is no sound group, and why it is none.
-fn put_refused(row: &mut [u8; OUT], body: &[u8], list: &[usize; LIST], k: usize) {
+fn put_refused(row: &mut Out, body: &[u8], list: &[usize; LIST], k: usize) {
     if is_loose(body, list, k) {
         text(row, b"loose");
     } else {
@@ -50,7 +50,7 @@ fn put_refused(row: &mut [u8; OUT], body: &[u8], list: &[usize; LIST], k: usize)
     put_reason(row, PLAIN, cause.case);
 }
 
-fn listing_row(row: &mut [u8; OUT], body: &[u8], list: &[usize; LIST], seen: Seen, k: usize) {
+fn listing_row(row: &mut Out, body: &[u8], list: &[usize; LIST], seen: Seen, k: usize) {
     clear(row);
     number(row, sum(k, 1));
     next_cell(row);
@@ -75,24 +75,22 @@ fn listing_row(row: &mut [u8; OUT], body: &[u8], list: &[usize; LIST], seen: See
 
 fn measure_listing(
     widths: &mut [usize; COLUMNS],
-    row: &mut [u8; OUT],
+    row: &mut Out,
     body: &[u8],
     list: &[usize; LIST],
     seen: Seen,
 ) {
     listing_head(row, seen);
     measure(widths, row);
-    let mut k: usize = 0;
-    while k < seen.count {
+    for k in 0..seen.count {
         listing_row(row, body, list, seen, k);
         measure(widths, row);
-        k += 1;
     }
 }
 
 fn put_rows(
-    out: &mut [u8; OUT],
-    row: &mut [u8; OUT],
+    out: &mut Out,
+    row: &mut Out,
     widths: &[usize; COLUMNS],
     body: &[u8],
     list: &[usize; LIST],
@@ -104,22 +102,14 @@ fn put_rows(
     }
     listing_head(row, seen);
     put_row(out, row, widths, 2, rights);
-    let mut k: usize = 0;
-    while k < seen.count {
+    for k in 0..seen.count {
         listing_row(row, body, list, seen, k);
         put_row(out, row, widths, 2, rights);
-        k += 1;
     }
 }
 
 // The groups of a sound body, or the entries of any other.
-pub fn put_listing(
-    out: &mut [u8; OUT],
-    row: &mut [u8; OUT],
-    file: &[u8],
-    list: &[usize; LIST],
-    seen: Seen,
-) {
+pub fn put_listing(out: &mut Out, row: &mut Out, file: &[u8], list: &[usize; LIST], seen: Seen) {
     let body = body_of(file, seen.tag, seen.length);
     let mut widths = [0usize; COLUMNS];
     if seen.verdict == SOUND {
@@ -132,12 +122,12 @@ pub fn put_listing(
     put_rows(out, row, &widths, body, list, seen);
 }
 
-fn sections_head(row: &mut [u8; OUT]) {
+fn sections_head(row: &mut Out) {
     clear(row);
     text(row, b"section\0place\0hex\0length\0");
 }
 
-fn section_row(row: &mut [u8; OUT], file: &[u8], seen: Seen, tag: usize) {
+fn section_row(row: &mut Out, file: &[u8], seen: Seen, tag: usize) {
     clear(row);
     put_tag(row, SHOWN, file, tag);
     next_cell(row);
@@ -150,7 +140,7 @@ fn section_row(row: &mut [u8; OUT], file: &[u8], seen: Seen, tag: usize) {
 
 fn measure_sections(
     widths: &mut [usize; COLUMNS],
-    row: &mut [u8; OUT],
+    row: &mut Out,
     file: &[u8],
     seen: Seen,
     end: usize,
@@ -158,21 +148,19 @@ fn measure_sections(
     sections_head(row);
     measure(widths, row);
     let mut tag: usize = 0;
-    let mut left = file.len();
-    while 0 < left {
+    for _ in 0..file.len() {
         if end <= tag {
             return;
         }
         section_row(row, file, seen, tag);
         measure(widths, row);
         tag = next_section(file, tag);
-        left -= 1;
     }
 }
 
 fn put_section_rows(
-    out: &mut [u8; OUT],
-    row: &mut [u8; OUT],
+    out: &mut Out,
+    row: &mut Out,
     widths: &[usize; COLUMNS],
     file: &[u8],
     seen: Seen,
@@ -181,20 +169,18 @@ fn put_section_rows(
     sections_head(row);
     put_row(out, row, widths, 2, SECTION_RIGHTS);
     let mut tag: usize = 0;
-    let mut left = file.len();
-    while 0 < left {
+    for _ in 0..file.len() {
         if end <= tag {
             return;
         }
         section_row(row, file, seen, tag);
         put_row(out, row, widths, 2, SECTION_RIGHTS);
         tag = next_section(file, tag);
-        left -= 1;
     }
 }
 
 // The size of the file, and its sections as far as they can be followed.
-pub fn put_sections(out: &mut [u8; OUT], row: &mut [u8; OUT], file: &[u8], seen: Seen) {
+pub fn put_sections(out: &mut Out, row: &mut Out, file: &[u8], seen: Seen) {
     text(out, b"\nFile: ");
     count(out, file.len(), b"byte", b"bytes");
     text(out, b"\n");

@@ -1,5 +1,6 @@
 // The channels of a sound group, as rows of bytes: what the records of either edition hold, and the Cntt.
 #![tactic(auto)]
+
 pub mod row;
 
 use casm::bytes::bytes_of;
@@ -21,10 +22,8 @@ pub fn blank_table() -> [Record; 32] {
 
 // The bytes of a record in row k.
 fn store_bytes(rows: &mut [u8; ROWS], k: usize, b: [u8; SECOND_RECORD]) {
-    let mut i: usize = 0;
-    while i < SECOND_RECORD {
+    for i in 0..SECOND_RECORD {
         set_byte(rows, k, i, b[i]);
-        i += 1;
     }
 }
 
@@ -56,12 +55,10 @@ pub fn store(rows: &mut [u8; ROWS], k: usize, r: Record) {
 }
 
 fn store_all(rows: &mut [u8; ROWS], table: [Record; 32], count: usize) {
-    let mut k: usize = 0;
-    while k < 32 {
+    for k in 0..32 {
         if k < count {
             store(rows, k, table[k]);
         }
-        k += 1;
     }
 }
 

@@ -1,31 +1,34 @@
 // A file written so that its name holds the old bytes or the new ones, and never half of them: a new file beside it is written, given its mode, synced, closed and then renamed.
 // On any failure the new file is removed, and the target is as it was.
 #![tactic(auto)]
+
 pub mod link;
 pub mod outcome;
 
 ghost use Rattle.tool_save.specs.Names.{Appended, Beside};
 
-use libc::PATH_MAX;
 use outcome::{LONG_NAME, SAVED, outcome_of};
-use tool_bytes::{byte_at, part, rest};
+use std::fs::{OpenFile, OpenOptions, Permissions, open, remove_file, rename};
+use std::io;
+use std::io::{ErrorKind, Write};
+use std::os::unix::fs::{OpenOptionsExt, PermissionsExt};
+use std::rt::Files;
+use tool_bytes::{part, rest};
+use tool_stat::path_text;
+
+// The longest path that C can be handed, with the zero behind it.
+pub const PATH_MAX: usize = 4096;
 
 // Puts a text at `at`, and answers where it ends: past the array where it has no room.
 pub fn append(name: &mut [u8; PATH_MAX], at: usize, text: &[u8]) -> usize
     ensures { Appended name.old at text.now result name.new }
 {
-    let s: &mut [u8] = name;
-    let mut after = at;
-    let mut i: usize = 0;
-    while i < text.len() {
-        if s.len() <= after {
-            return PATH_MAX + 1;
-        }
-        s[after] = text[i];
-        after += 1;
-        i += 1;
+    if PATH_MAX < at || PATH_MAX - at < text.len() {
+        return PATH_MAX + 1;
     }
-    after
+    let end = at + text.len();
+    name[at..end].copy_from_slice(text);
+    end
 }
 
 // The target's name with `.casm-XXXXXX` behind it.
@@ -36,109 +39,128 @@ fn beside(name: &mut [u8; PATH_MAX], target: &[u8]) -> usize
     append(name, after, b".casm-XXXXXX")
 }
 
-// Makes the file whose name has so many bytes, with its own characters in place of the X's.
-fn make_named(s: &mut [u8], length: usize) -> i32 {
-    if s.len() < length {
-        return -1;
-    }
-    os::create_temp(&mut s[0..length])
-}
-
-fn make(name: &mut [u8; PATH_MAX], length: usize) -> i32 {
-    let s: &mut [u8] = name;
-    make_named(s, length)
-}
-
-fn remove(name: &[u8; PATH_MAX], length: usize) {
+fn held<'a>(name: &'a [u8; PATH_MAX], length: usize) -> &'a [u8] {
     let s: &[u8] = name;
-    os::unlink(part(s, 0, length));
+    part(s, 0, length)
 }
 
-// Gives the new file its target's name.
-fn moved(name: &[u8; PATH_MAX], length: usize, target: &[u8]) -> u8 {
-    let s: &[u8] = name;
-    if os::rename(part(s, 0, length), target) != 0 {
-        return outcome_of(os::errno());
+// How many X's stand at the end of the name.
+const DIGITS: usize = 6;
+
+// Puts a digit in place of the X that has so many behind it.
+fn put_digit(name: &mut [u8; PATH_MAX], length: usize, behind: usize, digit: usize) {
+    let at = rest(rest(length, 1), behind);
+    if at < PATH_MAX {
+        name[at] = b'0' + (digit % 10) as u8;
     }
-    SAVED
 }
 
-// Why a step failed, and the file closed.
-fn closed(fd: i32) -> u8 {
-    let outcome = outcome_of(os::errno());
-    libc::close(fd);
-    outcome
+// Puts a number in place of the X's.
+fn put_number(name: &mut [u8; PATH_MAX], length: usize, n: usize) {
+    let mut left = n;
+    for behind in 0..DIGITS {
+        put_digit(name, length, behind, left);
+        left /= 10;
+    }
 }
 
-// Writes all, gives the file its mode, waits until the device has it, and closes.
-fn kept(fd: i32, bytes: &[u8], mode: u32) -> u8 {
-    if !io::write_all(fd, bytes) {
-        return closed(fd);
+// Makes the file whose name has so many bytes, with a number in place of the X's that no file there has; only its owner may read it.
+fn make<R: Files>(rt: &R, name: &mut [u8; PATH_MAX], length: usize) -> io::Result<R::File> {
+    let mut options = OpenOptions::new();
+    options.write(true).create_new(true).mode(0o600);
+    for n in 0..1000000 {
+        put_number(name, length, n);
+        match options.open(rt, path_text(held(name, length))?) {
+            Ok(file) => return Ok(file),
+            Err(e) => {
+                if e.kind() != ErrorKind::AlreadyExists {
+                    return Err(e);
+                }
+            }
+        }
     }
-    if libc::fchmod(fd, mode) != 0 {
-        return closed(fd);
-    }
-    if libc::fsync(fd) != 0 {
-        return closed(fd);
-    }
-    if libc::close(fd) != 0 {
-        return outcome_of(os::errno());
-    }
-    SAVED
+    Err(io::Error::from(ErrorKind::AlreadyExists))
+}
+
+// Writes all, gives the file its mode, and waits until the device has it.
+fn keep<F: Write + OpenFile>(file: &mut F, bytes: &[u8], mode: u32) -> io::Result<()> {
+    file.write_all(bytes)?;
+    file.set_permissions(Permissions::from_mode(mode))?;
+    file.sync_all()
+}
+
+// Makes the new file and keeps the bytes in it. It is closed before this answers.
+fn write_new<R: Files>(
+    rt: &R,
+    name: &mut [u8; PATH_MAX],
+    length: usize,
+    bytes: &[u8],
+    mode: u32,
+) -> io::Result<io::Result<()>> {
+    let mut file = make(rt, name, length)?;
+    Ok(keep(&mut file, bytes, mode))
+}
+
+// Gives the new file its target's name, where it was written.
+fn finish(rt: &impl Files, written: io::Result<()>, from: &str, target: &str) -> io::Result<()> {
+    written?;
+    rename(rt, from, target)
 }
 
 // How much of a path names its folder, with the slash behind it; 0 where none of it does.
 pub fn folder_length(path: &[u8]) -> usize {
-    let mut n = path.len();
-    while 0 < n {
-        if byte_at(path, rest(n, 1)) == b'/' {
-            return n;
+    let mut end = 0;
+    for i in 0..path.len() {
+        if path[i] == b'/' {
+            end = i + 1;
         }
-        n -= 1;
     }
-    0
+    end
 }
 
-// Waits until the device has what a folder holds. Not every folder can be opened, and what was written is written all the same.
-fn sync(folder: &[u8]) {
-    let fd = os::open_read(folder);
-    if fd < 0 {
-        return;
-    }
-    libc::fsync(fd);
-    libc::close(fd);
+// Waits until the device has what a folder holds.
+fn sync(rt: &impl Files, folder: &[u8]) -> io::Result<()> {
+    open(rt, path_text(folder)?)?.sync_all()
 }
 
-fn sync_folder(target: &[u8]) {
+// Not every folder can be opened, and what was written is written all the same.
+fn sync_folder(rt: &impl Files, target: &[u8]) {
     let n = folder_length(target);
     if n == 0 {
-        sync(b".");
+        let _ = sync(rt, b".");
         return;
     }
-    sync(part(target, 0, n));
+    let _ = sync(rt, part(target, 0, n));
+}
+
+fn save_beside(
+    rt: &impl Files,
+    name: &mut [u8; PATH_MAX],
+    length: usize,
+    target: &[u8],
+    bytes: &[u8],
+    mode: u32,
+) -> io::Result<()> {
+    let written = write_new(rt, name, length, bytes, mode)?;
+    let from = path_text(held(name, length))?;
+    let finished = finish(rt, written, from, path_text(target)?);
+    if finished.is_err() {
+        let _ = remove_file(rt, from);
+        return finished;
+    }
+    sync_folder(rt, target);
+    Ok(())
 }
 
 // Gives the file of that name these bytes and a mode.
-pub fn save(target: &[u8], bytes: &[u8], mode: u32) -> u8 {
-    let mut name = io::buffer();
+pub fn save(rt: &impl Files, target: &[u8], bytes: &[u8], mode: u32) -> u8 {
+    let mut name = [0; PATH_MAX];
     let length = beside(&mut name, target);
     if PATH_MAX < length {
         return LONG_NAME;
     }
-    let fd = make(&mut name, length);
-    if fd < 0 {
-        return outcome_of(os::errno());
+    match save_beside(rt, &mut name, length, target, bytes, mode) {
+        Ok(()) => SAVED,
+        Err(e) => outcome_of(e.kind()),
     }
-    let written = kept(fd, bytes, mode);
-    if written != SAVED {
-        remove(&name, length);
-        return written;
-    }
-    let renamed = moved(&name, length, target);
-    if renamed != SAVED {
-        remove(&name, length);
-        return renamed;
-    }
-    sync_folder(target);
-    SAVED
 }

@@ -1,38 +1,24 @@
 // The file that a link leads to, so that the file is replaced and not the link.
-ghost use Rattle.libc.specs.Io.{Ended};
-
-use crate::{append, folder_length};
-use libc::PATH_MAX;
+use crate::{PATH_MAX, append, folder_length, held};
+use std::io::ErrorKind;
+use std::rt::Files;
+use std::{fs, io};
 use tool_bytes::{byte_at, part};
-
-const LAST: usize = PATH_MAX - 1;
-
-// As much of path as leaves room for a 0, and then zeros.
-fn ended(path: &[u8]) -> [u8; PATH_MAX]
-    ensures { Ended result }
-{
-    let mut bytes = [0; PATH_MAX];
-    let mut i = 0;
-    while i < path.len() {
-        if i >= LAST {
-            break;
-        }
-        bytes[i] = path[i];
-        i += 1;
-    }
-    bytes[LAST] = 0;
-    bytes
-}
+use tool_stat::path_text;
 
 // What the link at a path says, so many bytes of it; 0 where there is no link.
-fn read_link(path: &[u8], text: &mut [u8; PATH_MAX]) -> usize {
-    if LAST < path.len() {
-        return 0;
+fn read_link<R: Files + AllocGlobal>(
+    rt: &R,
+    path: &[u8],
+    text: &mut [u8; PATH_MAX],
+) -> io::Result<usize> {
+    match fs::read_link(rt, path_text(path)?) {
+        Ok(says) => Ok(append(text, 0, says.as_str().as_bytes())),
+        Err(e) => match e.kind() {
+            ErrorKind::InvalidInput | ErrorKind::NotFound => Ok(0),
+            _ => Err(e),
+        },
     }
-    let bytes = ended(path);
-    let s: &mut [u8] = text;
-    let got = libc::readlink(&bytes, s);
-    io::count(got, s)
 }
 
 // The path that a link at a path means: what it says counts from the link's folder.
@@ -44,34 +30,35 @@ fn joined(next: &mut [u8; PATH_MAX], path: &[u8], says: &[u8]) -> usize {
     append(next, after, says)
 }
 
-fn held<'a>(name: &'a [u8; PATH_MAX], length: usize) -> &'a [u8] {
-    let s: &[u8] = name;
-    part(s, 0, length)
-}
-
 // Puts what the link of that name means in its place, and answers how long it is; 0 where it is no link.
-fn step(name: &mut [u8; PATH_MAX], length: usize) -> usize {
-    let mut says = io::buffer();
-    let n = read_link(held(name, length), &mut says);
+fn step<R: Files + AllocGlobal>(
+    rt: &R,
+    name: &mut [u8; PATH_MAX],
+    length: usize,
+) -> io::Result<usize> {
+    let mut says = [0; PATH_MAX];
+    let n = read_link(rt, held(name, length), &mut says)?;
     if n == 0 {
-        return 0;
+        return Ok(0);
     }
-    let mut next = io::buffer();
+    let mut next = [0; PATH_MAX];
     let m = joined(&mut next, held(name, length), held(&says, n));
-    append(name, 0, held(&next, m))
+    Ok(append(name, 0, held(&next, m)))
 }
 
 // The path with its last link followed, and that one's, up to 40.
-pub fn followed(name: &mut [u8; PATH_MAX], path: &[u8]) -> usize {
+pub fn followed<R: Files + AllocGlobal>(
+    rt: &R,
+    name: &mut [u8; PATH_MAX],
+    path: &[u8],
+) -> io::Result<usize> {
     let mut length = append(name, 0, path);
-    let mut left: usize = 40;
-    while 0 < left {
-        let next = step(name, length);
+    for _ in 0..40 {
+        let next = step(rt, name, length)?;
         if next == 0 {
-            return length;
+            break;
         }
         length = next;
-        left -= 1;
     }
-    length
+    Ok(length)
 }

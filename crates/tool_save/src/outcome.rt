@@ -1,4 +1,6 @@
 // How a saving went, in words.
+use std::io::ErrorKind;
+
 pub const SAVED: u8 = 0;
 
 pub const NO_FOLDER: u8 = 1;
@@ -16,35 +18,31 @@ pub const SPECIAL: u8 = 6;
 pub const UNWRITTEN: u8 = 7;
 
 // What an error of a call says.
-pub fn outcome_of(error: i32) -> u8 {
-    if error == libc::ENOENT || error == libc::ENOTDIR {
-        return NO_FOLDER;
+pub fn outcome_of(kind: ErrorKind) -> u8 {
+    match kind {
+        ErrorKind::NotFound | ErrorKind::NotADirectory => NO_FOLDER,
+        ErrorKind::PermissionDenied | ErrorKind::ReadOnlyFilesystem => FORBIDDEN,
+        ErrorKind::StorageFull => FULL,
+        ErrorKind::InvalidFilename => LONG_NAME,
+        ErrorKind::IsADirectory => DIRECTORY,
+        _ => UNWRITTEN,
     }
-    if error == libc::EACCES || error == libc::EPERM || error == libc::EROFS {
-        return FORBIDDEN;
-    }
-    if error == libc::ENOSPC {
-        return FULL;
-    }
-    if error == libc::ENAMETOOLONG {
-        return LONG_NAME;
-    }
-    if error == libc::EISDIR {
-        return DIRECTORY;
-    }
-    UNWRITTEN
 }
+
+// The kinds of a file that its mode names.
+const KIND: u32 = 0o10000;
+
+const REGULAR: u32 = 0o10;
+
+const FOLDER: u32 = 0o4;
 
 // What the kind of the file says that is to be replaced.
 pub fn outcome_of_kind(mode: u32) -> u8 {
-    let kind = mode / 0o10000;
-    if kind == libc::S_IFREG / 0o10000 {
-        return SAVED;
+    match mode / KIND {
+        REGULAR => SAVED,
+        FOLDER => DIRECTORY,
+        _ => SPECIAL,
     }
-    if kind == libc::S_IFDIR / 0o10000 {
-        return DIRECTORY;
-    }
-    SPECIAL
 }
 
 const OUTCOMES: [[u8; 35]; 8] = [

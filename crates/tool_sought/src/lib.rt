@@ -1,5 +1,6 @@
 // A channel of a part of a file, as a command names it: found, or said why not.
 #![tactic(auto)]
+
 use casm::read::{find_channel, find_group, find_part};
 use layout::answer::Channelled;
 use layout::edition::Edition;
@@ -8,12 +9,12 @@ use tool_asked::body::{complain_no_part, complain_part, complain_unsound};
 use tool_bytes::sum;
 use tool_chord::note::parse_channel;
 use tool_chord::wrong::complain_channel;
-use tool_ends::{begin, end};
+use tool_ends::{Host, begin, end};
 use tool_look::{SOUND, body_of, list, look};
-use tool_out::{OUT, SHOWN, number, text, text_as};
+use tool_out::{Out, SHOWN, number, text, text_as};
 
 // Whether it was found; then the number of the group, the channel's byte, the place of its record in the file, and whether it is of the second edition.
-#[derive(Drop)]
+#[derive(Clone, Copy)]
 pub struct Sought {
     pub is_found: bool,
     pub group: usize,
@@ -48,10 +49,9 @@ fn has_channel(body: &[u8], group: usize, channel: u8) -> bool {
 }
 
 // The channels that a group has.
-fn put_channels(out: &mut [u8; OUT], body: &[u8], group: usize) {
+fn put_channels(out: &mut Out, body: &[u8], group: usize) {
     let mut before: usize = 0;
-    let mut k: usize = 0;
-    while k < 16 {
+    for k in 0..16usize {
         if has_channel(body, group, (k % 256) as u8) {
             if 0 < before {
                 text(out, b", ");
@@ -59,35 +59,47 @@ fn put_channels(out: &mut [u8; OUT], body: &[u8], group: usize) {
             number(out, sum(k, 1));
             before = sum(before, 1);
         }
-        k += 1;
     }
     if before == 0 {
         text(out, b"none");
     }
 }
 
-fn put_there(out: &mut [u8; OUT], name: &[u8], body: &[u8], group: usize) {
+fn put_there(rt: &impl Host, out: &mut Out, name: &[u8], body: &[u8], group: usize) {
     text(out, b"; the channels of ");
     text_as(out, SHOWN, name);
     text(out, b" are ");
     put_channels(out, body, group);
-    end(out);
+    end(rt, out);
 }
 
-fn complain_no_channel(command: &[u8], name: &[u8], body: &[u8], group: usize) -> Sought {
-    let mut out = begin(command);
+fn complain_no_channel(
+    rt: &impl Host,
+    command: &[u8],
+    name: &[u8],
+    body: &[u8],
+    group: usize,
+) -> Sought {
+    let mut out = begin(rt, command);
     text(&mut out, b"no CHANNEL");
-    put_there(&mut out, name, body, group);
+    put_there(rt, &mut out, name, body, group);
     nothing()
 }
 
-fn complain_absent(command: &[u8], name: &[u8], body: &[u8], group: usize, channel: u8) -> Sought {
-    let mut out = begin(command);
+fn complain_absent(
+    rt: &impl Host,
+    command: &[u8],
+    name: &[u8],
+    body: &[u8],
+    group: usize,
+    channel: u8,
+) -> Sought {
+    let mut out = begin(rt, command);
     text(&mut out, b"no channel ");
     number(&mut out, sum(channel as usize, 1));
     text(&mut out, b" in ");
     text_as(&mut out, SHOWN, name);
-    put_there(&mut out, name, body, group);
+    put_there(rt, &mut out, name, body, group);
     nothing()
 }
 
@@ -102,6 +114,7 @@ fn found_at(body: &[u8], start: usize, group: usize, channel: u8, found: Channel
 }
 
 fn seek_channel(
+    rt: &impl Host,
     command: &[u8],
     name: &[u8],
     body: &[u8],
@@ -110,21 +123,22 @@ fn seek_channel(
     given: &[u8],
 ) -> Sought {
     if given.len() == 0 {
-        return complain_no_channel(command, name, body, group);
+        return complain_no_channel(rt, command, name, body, group);
     }
     let channel = parse_channel(given);
     if !channel.is_fine {
-        complain_channel(command, given);
+        complain_channel(rt, command, given);
         return nothing();
     }
     let found = find_channel(body, group, SourceChannel(channel.channel));
     if found.number != 0 {
-        return complain_absent(command, name, body, group, channel.channel);
+        return complain_absent(rt, command, name, body, group, channel.channel);
     }
     found_at(body, start, group, channel.channel, found)
 }
 
 fn seek_part(
+    rt: &impl Host,
     command: &[u8],
     path: &[u8],
     body: &[u8],
@@ -134,27 +148,35 @@ fn seek_part(
     given: &[u8],
 ) -> Sought {
     if name.len() == 0 {
-        complain_no_part(command, path, body, groups);
+        complain_no_part(rt, command, path, body, groups);
         return nothing();
     }
     let named = find_part(body, name);
     if named.number != 0 {
-        complain_part(command, name, path, body, groups);
+        complain_part(rt, command, name, path, body, groups);
         return nothing();
     }
-    seek_channel(command, name, body, start, named.group, given)
+    seek_channel(rt, command, name, body, start, named.group, given)
 }
 
 // The channel that is written so, of the part of that name, in the file at a path.
-pub fn seek(command: &[u8], path: &[u8], file: &[u8], name: &[u8], given: &[u8]) -> Sought {
+pub fn seek(
+    rt: &impl Host,
+    command: &[u8],
+    path: &[u8],
+    file: &[u8],
+    name: &[u8],
+    given: &[u8],
+) -> Sought {
     let mut entries = list::room();
     let seen = look(file, &mut entries);
     if seen.verdict != SOUND {
-        complain_unsound(command, path, file, &entries, seen);
+        complain_unsound(rt, command, path, file, &entries, seen);
         return nothing();
     }
     let body = body_of(file, seen.tag, seen.length);
     seek_part(
+        rt,
         command,
         path,
         body,
@@ -166,8 +188,8 @@ pub fn seek(command: &[u8], path: &[u8], file: &[u8], name: &[u8], given: &[u8])
 }
 
 // What is wrong with a file that a call refused.
-pub fn complain_refused(command: &[u8], path: &[u8], file: &[u8]) -> u8 {
+pub fn complain_refused(rt: &impl Host, command: &[u8], path: &[u8], file: &[u8]) -> u8 {
     let mut entries = list::room();
     let seen = look(file, &mut entries);
-    complain_unsound(command, path, file, &entries, seen)
+    complain_unsound(rt, command, path, file, &entries, seen)
 }

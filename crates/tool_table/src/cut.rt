@@ -1,7 +1,7 @@
 // Where a text is cut into lines of a width: after a comma where that will do, so that a name stays in one piece, else at a space, and else where the line ends.
 use crate::WIDE;
 use tool_bytes::{byte_at, part, rest, sum};
-use tool_out::{OUT, end_line, fill, held, text, trimmed_length};
+use tool_out::{Out, end_line, fill, held, text, trimmed_length};
 
 // A line may end at place i where a space stands there, behind a comma where that is asked; else where it could end before.
 fn better_end(s: &[u8], from: usize, i: usize, is_comma: bool, before: usize) -> usize {
@@ -22,10 +22,8 @@ fn better_end(s: &[u8], from: usize, i: usize, is_comma: bool, before: usize) ->
 // The last place of at most `to` at which a line that begins at `from` may end, or `from`.
 fn last_end(s: &[u8], from: usize, to: usize, is_comma: bool) -> usize {
     let mut end = from;
-    let mut i = from;
-    while i < to {
-        i += 1;
-        end = better_end(s, from, i, is_comma, end);
+    for i in from..to {
+        end = better_end(s, from, i + 1, is_comma, end);
     }
     end
 }
@@ -61,19 +59,18 @@ pub fn next_line(s: &[u8], ended: usize, end: usize) -> usize {
 }
 
 // A line without the spaces at its end.
-pub fn put_line(out: &mut [u8; OUT], s: &[u8], from: usize, end: usize) {
+pub fn put_line(out: &mut Out, s: &[u8], from: usize, end: usize) {
     let line = part(s, from, rest(end, from));
     let n = trimmed_length(line);
     text(out, part(line, 0, n));
 }
 
 // What a writer in memory holds, in lines: the first goes on where the writer stands, the others begin behind an indent; no line is wider than what the indent leaves.
-pub fn put_wrapped(out: &mut [u8; OUT], words: &[u8; OUT], indent: usize, at_commas: bool) {
+pub fn put_wrapped(out: &mut Out, words: &Out, indent: usize, at_commas: bool) {
     let s = held(words);
     let end = s.len();
     let mut from: usize = 0;
-    let mut left = end;
-    while 0 < left {
+    for _ in 0..end {
         let ended = line_end(s, from, end, rest(WIDE, indent), at_commas);
         put_line(out, s, from, ended);
         end_line(out);
@@ -82,7 +79,6 @@ pub fn put_wrapped(out: &mut [u8; OUT], words: &[u8; OUT], indent: usize, at_com
             return;
         }
         fill(out, b' ', indent);
-        left -= 1;
     }
     end_line(out);
 }

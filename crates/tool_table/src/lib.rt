@@ -1,10 +1,11 @@
 // Texts cut into lines, and rows of columns: a row is put into a writer in memory, a zero byte between its cells, measured, and printed.
 #![tactic(auto)]
+
 pub mod cut;
 pub mod row;
 
 use tool_bytes::{rest, sum};
-use tool_out::{OUT, byte, held};
+use tool_out::{Out, byte, held};
 
 // How wide a text for people is.
 pub const WIDE: usize = 80;
@@ -12,7 +13,7 @@ pub const WIDE: usize = 80;
 pub const COLUMNS: usize = 8;
 
 // Between two cells of a row: no shown text has a zero byte.
-pub fn next_cell(row: &mut [u8; OUT]) {
+pub fn next_cell(row: &mut Out) {
     byte(row, 0);
 }
 
@@ -26,12 +27,11 @@ fn widen(widths: &mut [usize; COLUMNS], k: usize, n: usize) {
 }
 
 // Makes each column as wide as the row's cell, where it is narrower.
-pub fn measure(widths: &mut [usize; COLUMNS], row: &[u8; OUT]) {
+pub fn measure(widths: &mut [usize; COLUMNS], row: &Out) {
     let s = held(row);
     let mut k: usize = 0;
     let mut n: usize = 0;
-    let mut i: usize = 0;
-    while i < s.len() {
+    for i in 0..s.len() {
         if s[i] == 0 {
             k = sum(k, 1);
             n = 0;
@@ -39,7 +39,6 @@ pub fn measure(widths: &mut [usize; COLUMNS], row: &[u8; OUT]) {
             n = sum(n, 1);
         }
         widen(widths, k, n);
-        i += 1;
     }
 }
 
@@ -62,10 +61,8 @@ pub fn width_of(widths: &[usize; COLUMNS], k: usize) -> usize {
 // Where column k begins, behind an indent and two spaces a column.
 pub fn column_place(widths: &[usize; COLUMNS], indent: usize, k: usize) -> usize {
     let mut at = indent;
-    let mut i: usize = 0;
-    while i < k {
+    for i in 0..k {
         at = sum(sum(at, 2), width_of(widths, i));
-        i += 1;
     }
     at
 }
@@ -87,14 +84,12 @@ pub fn limit_all(
     indent: usize,
     last: usize,
 ) {
-    let mut k: usize = 0;
-    while k < COLUMNS {
+    for k in 0..COLUMNS {
         if k < last {
             limit(widths, k, most[k]);
         }
         if k == last {
             limit_rest(widths, indent, k, most[k]);
         }
-        k += 1;
     }
 }

@@ -2,7 +2,7 @@
 use crate::cut::{line_end, next_line};
 use crate::{COLUMNS, column_place, width_of};
 use tool_bytes::{part, rest, sum};
-use tool_out::{OUT, end_line, held, pad, text, trimmed_length};
+use tool_out::{Out, end_line, held, pad, text, trimmed_length};
 
 fn set(places: &mut [usize; COLUMNS], k: usize, at: usize) {
     if k < COLUMNS {
@@ -13,32 +13,28 @@ fn set(places: &mut [usize; COLUMNS], k: usize, at: usize) {
 // Where the cells of a row begin and end.
 fn split(s: &[u8], from: &mut [usize; COLUMNS], ends: &mut [usize; COLUMNS]) {
     let mut k: usize = 0;
-    let mut i: usize = 0;
-    while i < s.len() {
+    for i in 0..s.len() {
         if s[i] == 0 {
             k = sum(k, 1);
             set(from, k, sum(i, 1));
         }
         set(ends, k, sum(i, 1));
-        i += 1;
     }
 }
 
 // Whether a cell has lines left.
 fn is_more(from: &[usize; COLUMNS], ends: &[usize; COLUMNS]) -> bool {
-    let mut k: usize = 0;
-    while k < COLUMNS {
+    for k in 0..COLUMNS {
         if from[k] < ends[k] {
             return true;
         }
-        k += 1;
     }
     false
 }
 
 // A piece of a cell behind what the line has up to column x; where the line then stands.
 fn put_piece(
-    out: &mut [u8; OUT],
+    out: &mut Out,
     piece: &[u8],
     x: usize,
     place: usize,
@@ -60,7 +56,7 @@ fn put_piece(
 
 // The next line of the cell that has from..end of a text left; where the line then stands. What is left of the cell begins behind it.
 fn put_cell(
-    out: &mut [u8; OUT],
+    out: &mut Out,
     s: &[u8],
     from: &mut usize,
     end: usize,
@@ -80,7 +76,7 @@ fn put_cell(
 
 // A line of the row.
 fn put_line(
-    out: &mut [u8; OUT],
+    out: &mut Out,
     s: &[u8],
     from: &mut [usize; COLUMNS],
     ends: &[usize; COLUMNS],
@@ -89,8 +85,7 @@ fn put_line(
     rights: [bool; COLUMNS],
 ) {
     let mut x: usize = 0;
-    let mut k: usize = 0;
-    while k < COLUMNS {
+    for k in 0..COLUMNS {
         let place = column_place(widths, indent, k);
         let mut at = from[k];
         x = put_cell(
@@ -104,15 +99,14 @@ fn put_line(
             rights[k],
         );
         from[k] = at;
-        k += 1;
     }
     end_line(out);
 }
 
 // The row that a writer in memory holds.
 pub fn put_row(
-    out: &mut [u8; OUT],
-    row: &[u8; OUT],
+    out: &mut Out,
+    row: &Out,
     widths: &[usize; COLUMNS],
     indent: usize,
     rights: [bool; COLUMNS],
@@ -121,12 +115,10 @@ pub fn put_row(
     let mut from = [0usize; COLUMNS];
     let mut ends = [0usize; COLUMNS];
     split(s, &mut from, &mut ends);
-    let mut left = s.len();
-    while 0 < left {
+    for _ in 0..s.len() {
         put_line(out, s, &mut from, &ends, widths, indent, rights);
         if !is_more(&from, &ends) {
             return;
         }
-        left -= 1;
     }
 }

@@ -3,21 +3,19 @@ use crate::{
     CHORD, CHORDS, DESTINATION, FIRST_RULE, FIRST_TABLE, GUITAR_TABLE, NOTE, RETRIGGER, ROOT,
     ROOTS, RULE, SWITCH, TABLE, VOICE, byte_named, count_of, put_named,
 };
-use tool_out::{OUT, text};
+use tool_out::{Out, text};
 
 // The first names of a kind.
-fn put_names(out: &mut [u8; OUT], kind: u8, count: usize) {
-    let mut k: usize = 0;
-    while k < count {
+fn put_names(out: &mut Out, kind: u8, count: usize) {
+    for k in 0..count {
         if 0 < k {
             text(out, b", ");
         }
         put_named(out, kind, byte_named(kind, k));
-        k += 1;
     }
 }
 
-fn put_tables(out: &mut [u8; OUT], kind: u8) {
+fn put_tables(out: &mut Out, kind: u8) {
     if kind == TABLE {
         put_names(out, kind, 11);
         text(
@@ -34,7 +32,7 @@ fn put_tables(out: &mut [u8; OUT], kind: u8) {
 }
 
 // The numbers that stand for the names too.
-fn put_numbers(out: &mut [u8; OUT], kind: u8) {
+fn put_numbers(out: &mut Out, kind: u8) {
     if kind == ROOT {
         text(out, b" or 0-11");
         return;
@@ -56,7 +54,7 @@ fn put_numbers(out: &mut [u8; OUT], kind: u8) {
     }
 }
 
-fn put_mask(out: &mut [u8; OUT], kind: u8) {
+fn put_mask(out: &mut Out, kind: u8) {
     text(
         out,
         b"all, none, names with commas between them, or all but and names; the names are ",
@@ -64,7 +62,7 @@ fn put_mask(out: &mut [u8; OUT], kind: u8) {
     put_names(out, kind, count_of(kind));
 }
 
-fn put_other(out: &mut [u8; OUT], kind: u8) {
+fn put_other(out: &mut Out, kind: u8) {
     if kind == SWITCH {
         text(out, b"yes or no");
         return;
@@ -84,7 +82,7 @@ fn put_other(out: &mut [u8; OUT], kind: u8) {
     put_mask(out, CHORD);
 }
 
-pub fn put_expected(out: &mut [u8; OUT], kind: u8) {
+pub fn put_expected(out: &mut Out, kind: u8) {
     if kind == TABLE || kind == GUITAR_TABLE {
         put_tables(out, kind);
         return;

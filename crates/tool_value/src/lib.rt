@@ -1,12 +1,14 @@
 // Values by name or by number, as the words of a report have them: what kinds there are, and the byte that a word stands for.
 #![tactic(auto)]
+
 pub mod expected;
 pub mod mask;
 
+use std::alloc::{AllocError, Global};
 use tool_bytes::{least, rest, sum};
 use tool_chord::letter_of;
 use tool_chord::note::parse_note;
-use tool_out::{MEMORY, OUT, held, text, word, writer};
+use tool_out::{MEMORY, Out, text, whole, word, writer};
 use tool_words::{names, put_chord, put_root, put_table};
 
 // The kinds of values. A rule of the first edition is none of those with tables of their own; a table is a Ctab's, a set's, or a set's under the rule Guitar.
@@ -67,7 +69,7 @@ pub fn byte_named(kind: u8, k: usize) -> u8 {
     (k % 256) as u8
 }
 
-fn put_switch(out: &mut [u8; OUT], value: u8) {
+fn put_switch(out: &mut Out, value: u8) {
     if value == 0 {
         text(out, b"no");
         return;
@@ -75,7 +77,7 @@ fn put_switch(out: &mut [u8; OUT], value: u8) {
     text(out, b"yes");
 }
 
-fn put_later(out: &mut [u8; OUT], kind: u8, value: u8) {
+fn put_later(out: &mut Out, kind: u8, value: u8) {
     if kind == FIRST_TABLE {
         let name = names::table_21(value);
         word(out, &name);
@@ -98,7 +100,7 @@ fn put_later(out: &mut [u8; OUT], kind: u8, value: u8) {
 }
 
 // The name of a byte of a kind.
-pub fn put_named(out: &mut [u8; OUT], kind: u8, value: u8) {
+pub fn put_named(out: &mut Out, kind: u8, value: u8) {
     if kind == ROOT {
         put_root(out, value);
         return;
@@ -119,23 +121,21 @@ pub fn put_named(out: &mut [u8; OUT], kind: u8, value: u8) {
     put_later(out, kind, value);
 }
 
-fn is_named(kind: u8, k: usize, given: &[u8]) -> bool {
-    let mut out = writer(MEMORY);
+fn is_named(alloc: Global, kind: u8, k: usize, given: &[u8]) -> Result<bool, AllocError> {
+    let mut out = writer(alloc, MEMORY);
     put_named(&mut out, kind, byte_named(kind, k));
-    check::same(held(&out), given)
+    Ok(check::same(whole(&out)?, given))
 }
 
 // The byte that a name of a kind stands for.
-fn named(kind: u8, given: &[u8]) -> usize {
+fn named(alloc: Global, kind: u8, given: &[u8]) -> Result<usize, AllocError> {
     let count = count_of(kind);
-    let mut k: usize = 0;
-    while k < count {
-        if is_named(kind, k, given) {
-            return byte_named(kind, k) as usize;
+    for k in 0..count {
+        if is_named(alloc, kind, k, given)? {
+            return Ok(byte_named(kind, k) as usize);
         }
-        k += 1;
     }
-    UNKNOWN
+    Ok(UNKNOWN)
 }
 
 // The digit that a byte is, or 10.
@@ -157,14 +157,12 @@ fn number_of(given: &[u8]) -> usize {
         return UNKNOWN;
     }
     let mut n: usize = 0;
-    let mut i: usize = 0;
-    while i < given.len() {
+    for i in 0..given.len() {
         let digit = digit_of(given[i]);
         if 9 < digit {
             return UNKNOWN;
         }
         n = with_digit(n, digit);
-        i += 1;
     }
     least(n, UNKNOWN)
 }
@@ -202,16 +200,16 @@ fn note_of(given: &[u8]) -> usize {
 }
 
 // The byte that a text stands for, a name of a kind or a number; whether it is sound is not looked at.
-pub fn value_of(kind: u8, given: &[u8]) -> usize {
+pub fn value_of(alloc: Global, kind: u8, given: &[u8]) -> Result<usize, AllocError> {
     if kind == ROOT {
-        return root_of(given);
+        return Ok(root_of(given));
     }
     if kind == NOTE {
-        return note_of(given);
+        return Ok(note_of(given));
     }
-    let byte = named(kind, given);
+    let byte = named(alloc, kind, given)?;
     if byte < UNKNOWN {
-        return byte;
+        return Ok(byte);
     }
-    numbered(kind, given)
+    Ok(numbered(kind, given))
 }

@@ -1,5 +1,6 @@
 // A mask by the names of its roots or chord types: `all`, `none`, `C,F,G`, `all but F#,G`.
 use crate::{CHORD, ROOT, value_of};
+use std::alloc::{AllocError, Global};
 use tool_bytes::{byte_at, part, rest, sum};
 use tool_words::masks;
 use tool_words::masks::is_held;
@@ -41,12 +42,10 @@ fn with_bit(mask: usize, k: usize) -> usize {
 
 // The next comma, or the end.
 fn comma_from(list: &[u8], from: usize) -> usize {
-    let mut i = from;
-    while i < list.len() {
+    for i in from..list.len() {
         if list[i] == b',' {
             return i;
         }
-        i += 1;
     }
     list.len()
 }
@@ -60,48 +59,46 @@ fn bare<'a>(name: &'a [u8]) -> &'a [u8] {
 }
 
 // The mask of the names of a list.
-fn mask_named(kind: u8, list: &[u8]) -> usize {
+fn mask_named(alloc: Global, kind: u8, list: &[u8]) -> Result<usize, AllocError> {
     let mut mask: usize = 0;
     let mut from: usize = 0;
-    let mut left = sum(list.len(), 1);
-    while 0 < left {
+    for _ in 0..sum(list.len(), 1) {
         let ended = comma_from(list, from);
-        let k = value_of(kind, bare(part(list, from, rest(ended, from))));
+        let k = value_of(alloc, kind, bare(part(list, from, rest(ended, from))))?;
         if bits_of(kind) <= k {
-            return NO_MASK;
+            return Ok(NO_MASK);
         }
         mask = with_bit(mask, k);
         if list.len() <= ended {
-            return mask;
+            return Ok(mask);
         }
         from = sum(ended, 1);
-        left -= 1;
     }
-    mask
+    Ok(mask)
 }
 
 // The mask that a text stands for, of roots or of chord types.
-pub fn mask_of(kind: u8, given: &[u8]) -> usize {
+pub fn mask_of(alloc: Global, kind: u8, given: &[u8]) -> Result<usize, AllocError> {
     if check::same(given, b"all") {
-        return all_of(kind);
+        return Ok(all_of(kind));
     }
     if check::same(given, b"none") {
-        return 0;
+        return Ok(0);
     }
     if !check::same(part(given, 0, 8), b"all but ") {
-        return mask_named(kind, given);
+        return mask_named(alloc, kind, given);
     }
-    let left_out = mask_named(kind, part(given, 8, given.len()));
+    let left_out = mask_named(alloc, kind, part(given, 8, given.len()))?;
     if left_out == NO_MASK {
-        return NO_MASK;
+        return Ok(NO_MASK);
     }
-    rest(all_of(kind), left_out)
+    Ok(rest(all_of(kind), left_out))
 }
 
-pub fn roots(given: &[u8]) -> usize {
-    mask_of(ROOT, given)
+pub fn roots(alloc: Global, given: &[u8]) -> Result<usize, AllocError> {
+    mask_of(alloc, ROOT, given)
 }
 
-pub fn chords(given: &[u8]) -> usize {
-    mask_of(CHORD, given)
+pub fn chords(alloc: Global, given: &[u8]) -> Result<usize, AllocError> {
+    mask_of(alloc, CHORD, given)
 }

@@ -1,5 +1,6 @@
 // `casm verify`: whether two files differ in one channel only.
 #![tactic(auto)]
+
 pub mod site;
 
 use casm::checking::check_files;
@@ -8,20 +9,20 @@ use layout::record::SourceChannel;
 use site::put_site;
 use tool_asked::is_read;
 use tool_bytes::{byte_at, rest, sum};
-use tool_ends::{CANNOT, DONE, NO, begin, complain, end, quoted};
+use tool_ends::{CANNOT, DONE, Host, NO, begin, complain, end, quoted};
 use tool_files::{FILE, contents};
-use tool_out::{OUT, SHOWN, count, end_line, number, place, text, text_as, upper_pair};
+use tool_out::{Out, SHOWN, count, end_line, number, place, text, text_as, upper_pair};
 use tool_sought::{complain_refused, seek};
 
 // The channel and the part.
-fn put_channel(out: &mut [u8; OUT], channel: u8, name: &[u8]) {
+fn put_channel(out: &mut Out, channel: u8, name: &[u8]) {
     text(out, b"ch ");
     number(out, sum(channel as usize, 1));
     text(out, b" of ");
     text_as(out, SHOWN, name);
 }
 
-fn put_yes(out: &mut [u8; OUT], is_same: bool, channel: u8, name: &[u8]) -> u8 {
+fn put_yes(out: &mut Out, is_same: bool, channel: u8, name: &[u8]) -> u8 {
     if is_same {
         text(out, b"yes: the files are the same\n");
         return DONE;
@@ -33,7 +34,7 @@ fn put_yes(out: &mut [u8; OUT], is_same: bool, channel: u8, name: &[u8]) -> u8 {
 }
 
 // That a file ends at a place, and how much the other one has behind it.
-fn put_ended(out: &mut [u8; OUT], path: &[u8], longer: &[u8], at: usize) {
+fn put_ended(out: &mut Out, path: &[u8], longer: &[u8], at: usize) {
     text(out, b"  ");
     text_as(out, SHOWN, path);
     text(out, b" ends at ");
@@ -44,13 +45,13 @@ fn put_ended(out: &mut [u8; OUT], path: &[u8], longer: &[u8], at: usize) {
     end_line(out);
 }
 
-fn put_byte(out: &mut [u8; OUT], value: u8) {
+fn put_byte(out: &mut Out, value: u8) {
     upper_pair(out, value);
     text(out, b"H");
 }
 
 // The first byte that differs, and what it is of.
-fn put_first(out: &mut [u8; OUT], before: &[u8], after: &[u8], at: usize) {
+fn put_first(out: &mut Out, before: &[u8], after: &[u8], at: usize) {
     text(out, b"  first at ");
     place(out, at);
     text(out, b": ");
@@ -63,7 +64,7 @@ fn put_first(out: &mut [u8; OUT], before: &[u8], after: &[u8], at: usize) {
     end_line(out);
 }
 
-fn put_no(out: &mut [u8; OUT], path: &[u8], before: &[u8], other: &[u8], after: &[u8], at: usize) {
+fn put_no(out: &mut Out, path: &[u8], before: &[u8], other: &[u8], after: &[u8], at: usize) {
     if before.len() <= at {
         put_ended(out, path, after, at);
         return;
@@ -87,6 +88,7 @@ fn is_after(which: Which) -> bool {
 }
 
 fn complain_checked(
+    rt: &impl Host,
     path: &[u8],
     before: &[u8],
     other: &[u8],
@@ -95,14 +97,15 @@ fn complain_checked(
 ) -> u8 {
     let which = checked.which;
     if is_after(which) {
-        return complain_refused(b"verify", other, after);
+        return complain_refused(rt, b"verify", other, after);
     }
-    complain_refused(b"verify", path, before)
+    complain_refused(rt, b"verify", path, before)
 }
 
 // Tells what the call answers.
 fn verify_files(
-    out: &mut [u8; OUT],
+    rt: &impl Host,
+    out: &mut Out,
     path: &[u8],
     before: &[u8],
     other: &[u8],
@@ -110,14 +113,14 @@ fn verify_files(
     name: &[u8],
     given: &[u8],
 ) -> u8 {
-    let sought = seek(b"verify", path, before, name, given);
+    let sought = seek(rt, b"verify", path, before, name, given);
     if !sought.is_found {
         return CANNOT;
     }
     let channel = sought.channel;
     let checked = check_files(before, after, sought.group, SourceChannel(channel));
     if checked.number != 0 {
-        return complain_checked(path, before, other, after, checked);
+        return complain_checked(rt, path, before, other, after, checked);
     }
     if checked.yes {
         return put_yes(out, check::same(before, after), channel, name);
@@ -130,7 +133,8 @@ fn verify_files(
 }
 
 fn verify_read(
-    out: &mut [u8; OUT],
+    rt: &impl Host,
+    out: &mut Out,
     path: &[u8],
     sent: &[u8; FILE],
     length: usize,
@@ -140,10 +144,11 @@ fn verify_read(
 ) -> u8 {
     let mut bytes = tool_files::room();
     let mut more: usize = 0;
-    if !is_read(other, &mut bytes, &mut more) {
+    if !is_read(rt, other, &mut bytes, &mut more) {
         return CANNOT;
     }
     verify_files(
+        rt,
         out,
         path,
         contents(sent, length),
@@ -154,48 +159,56 @@ fn verify_read(
     )
 }
 
-fn verify_paths(out: &mut [u8; OUT], path: &[u8], other: &[u8], name: &[u8], given: &[u8]) -> u8 {
+fn verify_paths(
+    rt: &impl Host,
+    out: &mut Out,
+    path: &[u8],
+    other: &[u8],
+    name: &[u8],
+    given: &[u8],
+) -> u8 {
     let mut bytes = tool_files::room();
     let mut length: usize = 0;
-    if !is_read(path, &mut bytes, &mut length) {
+    if !is_read(rt, path, &mut bytes, &mut length) {
         return CANNOT;
     }
-    verify_read(out, path, &bytes, length, other, name, given)
+    verify_read(rt, out, path, &bytes, length, other, name, given)
 }
 
 // An argument too many.
-fn complain_more(i: usize) -> u8 {
-    let mut given = io::buffer();
-    let n = os::arg(i, &mut given);
-    let mut out = begin(b"verify");
+fn complain_more(rt: &impl Host, i: usize) -> u8 {
+    let mut given = tool_ends::buffer();
+    let n = tool_ends::arg(rt, i, &mut given);
+    let mut out = begin(rt, b"verify");
     quoted(&mut out, &given[..n]);
     text(
         &mut out,
         b" is too much; expected casm verify BEFORE AFTER PART CHANNEL",
     );
-    end(&mut out);
+    end(rt, &mut out);
     CANNOT
 }
 
 // `casm verify BEFORE AFTER PART CHANNEL`, the arguments from number `first` on.
-pub fn verify(out: &mut [u8; OUT], first: usize) -> u8 {
-    let given = rest(os::arg_count(), first);
+pub fn verify(rt: &impl Host, out: &mut Out, first: usize) -> u8 {
+    let given = rest(tool_ends::arg_count(rt), first);
     if given < 2 {
         return complain(
+            rt,
             b"verify",
             b"no BEFORE and AFTER; expected casm verify BEFORE AFTER PART CHANNEL",
         );
     }
     if 4 < given {
-        return complain_more(sum(first, 4));
+        return complain_more(rt, sum(first, 4));
     }
-    let mut path = io::buffer();
-    let mut other = io::buffer();
-    let mut name = io::buffer();
-    let mut channel = io::buffer();
-    let n = os::arg(first, &mut path);
-    let m = os::arg(sum(first, 1), &mut other);
-    let k = os::arg(sum(first, 2), &mut name);
-    let j = os::arg(sum(first, 3), &mut channel);
-    verify_paths(out, &path[..n], &other[..m], &name[..k], &channel[..j])
+    let mut path = tool_ends::buffer();
+    let mut other = tool_ends::buffer();
+    let mut name = tool_ends::buffer();
+    let mut channel = tool_ends::buffer();
+    let n = tool_ends::arg(rt, first, &mut path);
+    let m = tool_ends::arg(rt, sum(first, 1), &mut other);
+    let k = tool_ends::arg(rt, sum(first, 2), &mut name);
+    let j = tool_ends::arg(rt, sum(first, 3), &mut channel);
+    verify_paths(rt, out, &path[..n], &other[..m], &name[..k], &channel[..j])
 }

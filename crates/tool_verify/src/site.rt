@@ -2,27 +2,25 @@
 use casm::read::{find_casm, find_place, group_text, section_body};
 use layout::answer::Sited;
 use tool_bytes::{byte_at, is_tag, rest, sum};
-use tool_out::{OUT, SHOWN, number, place, text};
+use tool_out::{Out, SHOWN, number, place, text};
 use tool_parts::{next_section, put_parts, put_tag};
 use tool_words::fields::put_field;
 
 // The section that has a place of a sound file: where its tag stands.
 fn section_with(file: &[u8], at: usize) -> usize {
     let mut tag: usize = 0;
-    let mut left = file.len();
-    while 0 < left {
+    for _ in 0..file.len() {
         let next = next_section(file, tag);
         if at < next {
             return tag;
         }
         tag = next;
-        left -= 1;
     }
     tag
 }
 
 // What of a header a byte is of, k bytes behind its start.
-fn put_header(out: &mut [u8; OUT], k: usize) {
+fn put_header(out: &mut Out, k: usize) {
     if k < 4 {
         text(out, b"the tag of ");
         return;
@@ -30,7 +28,7 @@ fn put_header(out: &mut [u8; OUT], k: usize) {
     text(out, b"the length of ");
 }
 
-fn put_section(out: &mut [u8; OUT], file: &[u8], tag: usize) {
+fn put_section(out: &mut Out, file: &[u8], tag: usize) {
     text(out, b"the section ");
     put_tag(out, SHOWN, file, tag);
     text(out, b" at ");
@@ -38,7 +36,7 @@ fn put_section(out: &mut [u8; OUT], file: &[u8], tag: usize) {
 }
 
 // The group, as people count it, and its parts.
-fn put_group(out: &mut [u8; OUT], body: &[u8], group: usize) {
+fn put_group(out: &mut Out, body: &[u8], group: usize) {
     text(out, b"group ");
     number(out, sum(group, 1));
     text(out, b" (");
@@ -47,7 +45,7 @@ fn put_group(out: &mut [u8; OUT], body: &[u8], group: usize) {
 }
 
 // A chunk of a channel.
-fn put_chunk(out: &mut [u8; OUT], body: &[u8], chunk: usize) {
+fn put_chunk(out: &mut Out, body: &[u8], chunk: usize) {
     text(out, b"the ");
     put_tag(out, SHOWN, body, chunk);
     if is_tag(body, chunk, b"Sdec") {
@@ -58,7 +56,7 @@ fn put_chunk(out: &mut [u8; OUT], body: &[u8], chunk: usize) {
 }
 
 // The field that byte k of a chunk is of.
-fn put_chunk_field(out: &mut [u8; OUT], body: &[u8], chunk: usize, k: usize) {
+fn put_chunk_field(out: &mut Out, body: &[u8], chunk: usize, k: usize) {
     if is_tag(body, chunk, b"Sdec") {
         text(out, b"the part names");
         return;
@@ -74,7 +72,7 @@ fn put_chunk_field(out: &mut [u8; OUT], body: &[u8], chunk: usize, k: usize) {
 }
 
 // A byte of a chunk, k bytes behind its tag's start.
-fn put_in_chunk(out: &mut [u8; OUT], body: &[u8], sited: Sited, k: usize) {
+fn put_in_chunk(out: &mut Out, body: &[u8], sited: Sited, k: usize) {
     if k < 8 {
         put_header(out, k);
         put_chunk(out, body, sited.chunk);
@@ -88,7 +86,7 @@ fn put_in_chunk(out: &mut [u8; OUT], body: &[u8], sited: Sited, k: usize) {
 }
 
 // What stands at a place of a body.
-fn put_in_body(out: &mut [u8; OUT], body: &[u8], at: usize) {
+fn put_in_body(out: &mut Out, body: &[u8], at: usize) {
     let sited = find_place(body, at);
     let k = rest(at, sited.chunk);
     if sited.child == 0 {
@@ -100,7 +98,7 @@ fn put_in_body(out: &mut [u8; OUT], body: &[u8], at: usize) {
 }
 
 // What stands at a place of a sound file: a section, and in CASM also the group, the chunk and the field.
-pub fn put_site(out: &mut [u8; OUT], file: &[u8], at: usize) {
+pub fn put_site(out: &mut Out, file: &[u8], at: usize) {
     let tag = section_with(file, at);
     let k = rest(at, tag);
     if k < 8 {

@@ -1,9 +1,10 @@
 // Who plays, asked of the library: under one chord, and under each of the 408; and why a channel does not.
 #![tactic(auto)]
+
 use casm::questions::who_plays;
 use layout::record::SourceChannel;
 use tool_bytes::least;
-use tool_out::{OUT, text};
+use tool_out::{Out, text};
 use tool_rows::row::{ROWS, byte_of, chord_mask, root_mask};
 use tool_words::masks::{AUTO_START, is_held};
 
@@ -39,23 +40,19 @@ pub fn mark_playing(
     let played = who_plays(body, name, root, kind);
     let channels = played.channels;
     let count = least(played.count, 16);
-    let mut i: usize = 0;
-    while i < 16 {
+    for i in 0..16 {
         if i < count {
             mark(marks, channels[i]);
         }
-        i += 1;
     }
     count
 }
 
 // Counts who plays under each chord, and marks who plays under one of them.
 pub fn count_all(counts: &mut [usize; CHORDS], marks: &mut [u8; MARKS], body: &[u8], name: &[u8]) {
-    let mut k: usize = 0;
-    while k < 408 {
+    for k in 0..408usize {
         let n = mark_playing(marks, body, name, (k % 12) as u8, (k / 12 % 34) as u8);
         counts[k] = n;
-        k += 1;
     }
 }
 
@@ -84,7 +81,7 @@ pub fn is_auto(rows: &[u8; ROWS], k: usize) -> bool {
 }
 
 // Which of its masks keeps the channel of row k from playing under a chord.
-pub fn put_why(out: &mut [u8; OUT], rows: &[u8; ROWS], k: usize, root: u8, kind: u8) {
+pub fn put_why(out: &mut Out, rows: &[u8; ROWS], k: usize, root: u8, kind: u8) {
     text(out, b"by its ");
     let is_root = is_held(root_mask(rows, k), root as usize);
     let is_kind = is_held(chord_mask(rows, k), kind as usize);

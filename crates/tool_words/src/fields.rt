@@ -1,6 +1,6 @@
 // The fields of a record by its bytes (001, 1.1 and 1.2), each named once.
 use crate::names::set;
-use tool_out::{OUT, text, word};
+use tool_out::{Out, text, word};
 
 // The bytes that the editions share, the six of a set, and what else an edition has.
 const FIELDS: [[u8; 19]; 18] = [
@@ -141,7 +141,7 @@ pub fn set_of(k: usize) -> u8 {
 }
 
 // The name of byte k's field: in a set of three also whose it is.
-pub fn put_field(out: &mut [u8; OUT], is_second: bool, k: usize) {
+pub fn put_field(out: &mut Out, is_second: bool, k: usize) {
     let name = field_name(field_of(is_second, k));
     word(out, &name);
     if !is_second || k < SETS || 40 <= k {

@@ -1,7 +1,7 @@
 // A mask of chord roots or of chord types, in words: `all`, `none`, `all but ..` where fewer are left out than held, else the list.
 use crate::{put_chord, put_root};
 use tool_bytes::{rest, sum};
-use tool_out::{OUT, text};
+use tool_out::{Out, text};
 
 // How many roots and types a mask has bits for, and the bit for starting by itself.
 pub const ROOTS: usize = 12;
@@ -21,18 +21,16 @@ pub fn is_held(mask: usize, bit: usize) -> bool {
 // How many of the first `count` bits a mask has.
 pub fn held_of(mask: usize, count: usize) -> usize {
     let mut n: usize = 0;
-    let mut k: usize = 0;
-    while k < count {
+    for k in 0..count {
         if is_held(mask, k) {
             n = sum(n, 1);
         }
-        k += 1;
     }
     n
 }
 
 // The name of a root, or of a type where there are so many.
-fn put_name(out: &mut [u8; OUT], count: usize, k: usize) {
+fn put_name(out: &mut Out, count: usize, k: usize) {
     if count == ROOTS {
         put_root(out, (k % 256) as u8);
         return;
@@ -41,7 +39,7 @@ fn put_name(out: &mut [u8; OUT], count: usize, k: usize) {
 }
 
 // A name behind those before it.
-fn put_next(out: &mut [u8; OUT], count: usize, k: usize, before: usize) {
+fn put_next(out: &mut Out, count: usize, k: usize, before: usize) {
     if 0 < before {
         text(out, b", ");
     }
@@ -49,20 +47,18 @@ fn put_next(out: &mut [u8; OUT], count: usize, k: usize, before: usize) {
 }
 
 // The names of those that are held, or of those that are not.
-fn put_those(out: &mut [u8; OUT], mask: usize, count: usize, is_those_held: bool) {
+fn put_those(out: &mut Out, mask: usize, count: usize, is_those_held: bool) {
     let mut before: usize = 0;
-    let mut k: usize = 0;
-    while k < count {
+    for k in 0..count {
         if is_held(mask, k) == is_those_held {
             put_next(out, count, k, before);
             before = sum(before, 1);
         }
-        k += 1;
     }
 }
 
 // The words for a mask of so many bits.
-pub fn put_mask(out: &mut [u8; OUT], mask: usize, count: usize) {
+pub fn put_mask(out: &mut Out, mask: usize, count: usize) {
     let held = held_of(mask, count);
     let left_out = rest(count, held);
     if left_out == 0 {
@@ -82,7 +78,7 @@ pub fn put_mask(out: &mut [u8; OUT], mask: usize, count: usize) {
 }
 
 // A chord mask with what else it says.
-pub fn put_chords(out: &mut [u8; OUT], mask: usize) {
+pub fn put_chords(out: &mut Out, mask: usize) {
     put_mask(out, mask, TYPES);
     if is_held(mask, AUTO_START) {
         text(out, b"; auto start");

@@ -1,5 +1,5 @@
 // Why something is refused, in words: a sentence for each case of a number of refusal (document 01, "Numbers of refusal"; document 02).
-use tool_out::{OUT, word_as};
+use tool_out::{Out, word_as};
 
 pub const NOT_STYLE: u8 = 0;
 
@@ -93,7 +93,7 @@ pub fn reason(case: u8) -> [u8; 94] {
 }
 
 // The sentence for a case.
-pub fn put_reason(out: &mut [u8; OUT], how: u8, case: u8) {
+pub fn put_reason(out: &mut Out, how: u8, case: u8) {
     let words = reason(case);
     word_as(out, how, &words);
 }
