@@ -1,6 +1,6 @@
 -- The answers of the two calls, one law for each way out: of two bodies, and of two files whose sections are found.
 use Prim.Native.Nat.{ℕ, ◌+◌, ◌≤◌}
-use mathlib.Core.Path.{◌≡◌, sym, ap, ap₂, ◌∙◌}
+use mathlib.Core.Path.{◌≡◌, sym, ap, ◌∙◌}
 use mathlib.Core.List.{List}
 use native.Mathlib.Omega.{arith}
 use lib.ListN.{length, take, drop, length-take}
@@ -8,15 +8,15 @@ use Rattle.layout.specs.declared.edition.Edition.{Edition}
 use Rattle.layout.specs.declared.answer.Located.{Located}
 use Rattle.layout.specs.declared.answer.Which.TheVariants.{BeforeFile, AfterFile, BeforeBody, AfterBody}
 use Rattle.layout.specs.Editions.{size}
-use Rattle.layout.specs.Answers.{refused, granted}
+use Rattle.layout.specs.Answers.{granted}
 use Rattle.layout.specs.Body.{body_run}
 use Rattle.layout.specs.Asked.{channel_found}
 use Rattle.layout.specs.Style.{casm_found, located}
 use Rattle.layout.specs.Listing.{body_in}
 use Rattle.layout.specs.Check.{Verdict, Denied, compared, unless, of_record_before, bodies_checked, files_checked, checked}
 use Rattle.read_style.proofs.PlaceLaws.{casm_stands, casm_none}
-use Rattle.ask_check.specs.declared.both.Both.{Both}
-use Rattle.ask_check.specs.declared.both.Both.TheVariants.{Before, After, Without, At}
+use Rattle.ask_check.specs.Both.{Both}
+use Rattle.ask_check.specs.Both.{Before, After, Without, At}
 use Rattle.ask_check.specs.Both.{both_found}
 use Rattle.ask_check.specs.Told.{section}
 use Rattle.ask_check.proofs.Verdicts.{of_before, of_after, of_without, of_at, before_place, after_place, at_within}

@@ -5,12 +5,10 @@ use mathlib.Core.Bool.{Bool, true, false, cond, not}
 use mathlib.Core.List.{List}
 use native.Mathlib.Decide.{dec_lt}
 use native.Mathlib.Omega.{arith}
-use lib.Dec.{ltb, leb, eqb}
 use lib.ListN.{length, get_or}
 use borrow.Author.Tests.{lt-ltb, le-ltb, le-leb, lt-leb, eq-eqb, ne_eqb}
 use Rattle.layout.specs.Scan.{first_of, first}
 use Rattle.layout.specs.Check.{unlike_at, first_unlike, compared, checked}
-use Rattle.layout.specs.declared.answer.Checked.{Checked}
 use Rattle.layout.proofs.Scans.{first_next, first_passed, first_none, first_cut, first_on, first_alike}
 use Rattle.ask_check.specs.Apart.{apart_at, SameFrom}
 use Rattle.ask_check.specs.Told.{told}

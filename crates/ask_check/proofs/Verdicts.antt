@@ -6,8 +6,8 @@ use mathlib.Core.List.{List}
 use native.Mathlib.Omega.{arith}
 use lib.Dec.{leb}
 use lib.ListN.{length}
-use Rattle.layout.specs.declared.turn.Run.{Run}
-use Rattle.layout.specs.declared.turn.Run.TheVariants.{Stopped, Ended}
+use Rattle.layout.specs.Scan.{Run}
+use Rattle.layout.specs.Scan.{Ended}
 use Rattle.layout.specs.declared.edition.Edition.{Edition}
 use Rattle.layout.specs.declared.answer.Which.TheVariants.{BeforeBody, AfterBody}
 use Rattle.layout.specs.Editions.{size}
@@ -16,13 +16,14 @@ use Rattle.layout.specs.Body.{body_run, body_read}
 use Rattle.layout.specs.Asked.{Whereabouts, standing, row_of, row_in, of_group, of_channel, channel_found}
 use Rattle.layout.specs.Check.{Verdict, Denied, unless, of_record_before}
 use Rattle.layout.proofs.Accepted.{body_place}
-use Rattle.read_find.specs.declared.row.Sought.{Sought}
-use Rattle.read_find.specs.declared.row.Sought.TheVariants.{Refused, At as Found}
+use Rattle.read_find.specs.Row.{Sought}
 use Rattle.read_find.specs.Row.{sought}
 use Rattle.read_find.proofs.RowLaws.{record_within}
-use Rattle.ask_check.specs.declared.both.Both.{Both}
-use Rattle.ask_check.specs.declared.both.Both.TheVariants.{Before, After, Without, At}
+use Rattle.ask_check.specs.Both.{Both}
+use Rattle.ask_check.specs.Both.{Before, After, Without, At}
 use Rattle.ask_check.specs.Both.{row_told, unless_stopped, both_found}
+use Rattle.std.specs.Prelude.{Ok, Err}
+use Rattle.ask_check.specs.declared.both.NoRecord.TheVariants.{InBefore, InAfter, Nowhere}
 
 -- the refusal of a record that is not found, in a body that is read, has the place 0
 place_nought : (s : List ℕ) (g channel n number place : ℕ) → body_run s ≡ Ended n → channel_found s g channel ≡ refused number place → place ≡ 0
@@ -37,10 +38,10 @@ place_nought s g channel n number place e q = go (leb n g) (leb (standing s g).r
 module _ (a b : ℕ) (f : Edition → ℕ → Verdict) where
   -- what was found, told of bodies that begin at a and b of what was lent
   unfoldable verdict_of : Both → Verdict
-  verdict_of (Before number place) = Denied BeforeBody number (a + place)
-  verdict_of (After number place) = Denied AfterBody number (b + place)
-  verdict_of (Without number) = Denied BeforeBody number 0
-  verdict_of (At e at) = f e at
+  verdict_of (Err (InBefore why)) = Denied BeforeBody why.number (a + why.place)
+  verdict_of (Err (InAfter why)) = Denied AfterBody why.number (b + why.place)
+  verdict_of (Err (Nowhere number)) = Denied BeforeBody number 0
+  verdict_of (Ok x) = f x.edition x.at
 
   module _ (s t : List ℕ) (g channel : ℕ) where
     abbrev Looked : Both
@@ -58,9 +59,9 @@ module _ (a b : ℕ) (f : Edition → ℕ → Verdict) where
         go : (x : Run) → body_run s ≡ x → (y : Run)
             → unless BeforeBody a (after_run x (λ n. granted n)) (λ _. unless AfterBody b (after_run y (λ n. granted n)) (λ _. unless BeforeBody 0 (channel_found s g channel) (λ row. f row.edition row.at)))
             ≡ verdict_of (both_found x y (channel_found s g channel))
-        go (Stopped m p) e y = refl
-        go (Ended n) e (Stopped m p) = refl
-        go (Ended n) e (Ended m) = row (channel_found s g channel) (λ number place q. place_nought s g channel n number place e q)
+        go (Err why) e y = refl
+        go (Ok n) e (Err why) = refl
+        go (Ok n) e (Ok m) = row (channel_found s g channel) (λ number place q. place_nought s g channel n number place e q)
 
     pub of_before : (number place : ℕ) → Looked ≡ Before number place → of_record_before a b s t g channel (λ row. f row.edition row.at) ≡ Denied BeforeBody number (a + place)
     unfolding verdict_of
@@ -84,24 +85,24 @@ module _ (a b : ℕ) (f : Edition → ℕ → Verdict) where
 module _ (s t : List ℕ) (g channel : ℕ) where
   -- what each says of the places
   abbrev Within : Both → Type 0
-  Within (Before number place) = place ≤ length s
-  Within (After number place) = place ≤ length t
-  Within (Without number) = Unit {0}
-  Within (At e at) = at + size e ≤ length s
+  Within (Err (InBefore why)) = why.place ≤ length s
+  Within (Err (InAfter why)) = why.place ≤ length t
+  Within (Err (Nowhere number)) = Unit {0}
+  Within (Ok x) = x.at + size x.edition ≤ length s
 
   row_within : (x : Sought) → sought (channel_found s g channel) ≡ x → Within (row_told x)
   unfolding row_told
-  row_within (Refused number place) h = tt
-  row_within (Found e i at) h = record_within s g channel e i at h
+  row_within (Err why) h = tt
+  row_within (Ok x) h = record_within s g channel x.edition x.row x.at h
 
   found_within : Within (both_found (body_run s) (body_run t) (channel_found s g channel))
   unfolding both_found unless_stopped
   found_within = go (body_run s) refl (body_run t) refl
     where
       go : (x : Run) → body_run s ≡ x → (y : Run) → body_run t ≡ y → Within (both_found x y (channel_found s g channel))
-      go (Stopped m p) e y h = body_place s m p e
-      go (Ended n) e (Stopped m p) h = body_place t m p h
-      go (Ended n) e (Ended m) h = row_within (sought (channel_found s g channel)) refl
+      go (Err why) e y h = body_place s why.number why.place e
+      go (Ok n) e (Err why) h = body_place t why.number why.place h
+      go (Ok n) e (Ok m) h = row_within (sought (channel_found s g channel)) refl
 
   pub before_place : (number place : ℕ) → both_found (body_run s) (body_run t) (channel_found s g channel) ≡ Before number place → place ≤ length s
   before_place number place h = subst Within h found_within

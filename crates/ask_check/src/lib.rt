@@ -11,7 +11,7 @@ ghost use Rattle.layout.specs.Check.{Denied, compared, checked, files_checked};
 ghost use Rattle.layout.specs.Promises.{BodiesChecked, FilesChecked};
 ghost use Rattle.ask_check.specs.Told.{told, section};
 
-use crate::both::{Both, find_in_both};
+use crate::both::{NoRecord, find_in_both};
 use crate::unlike::first_unlike;
 use layout::answer::{Checked, Which};
 use layout::record::SourceChannel;
@@ -24,9 +24,9 @@ fn denied(which: Which, number: u8, place: usize) -> Checked
     ensures { result ≡ checked (Denied which number place) }
 {
     Checked {
-        number: number,
-        place: place,
-        which: which,
+        number,
+        place,
+        which,
         yes: false,
         unlike: 0,
     }
@@ -40,8 +40,8 @@ fn answer(yes: bool, unlike: usize) -> Checked
         number: 0,
         place: 0,
         which: Which::Neither,
-        yes: yes,
-        unlike: unlike,
+        yes,
+        unlike,
     }
 }
 
@@ -65,10 +65,10 @@ pub fn check_bodies(before: &[u8], after: &[u8], group: usize, channel: SourceCh
     ensures { BodiesChecked before.now after.now group channel.0 result }
 {
     match find_in_both(before, after, group, channel) {
-        Both::Before(number, place) => denied(Which::BeforeBody, number, place),
-        Both::After(number, place) => denied(Which::AfterBody, number, place),
-        Both::Without(number) => denied(Which::BeforeBody, number, 0),
-        Both::At(edition, at) => compare(before, after, at, size_of(edition)),
+        Err(NoRecord::InBefore(why)) => denied(Which::BeforeBody, why.number, why.place),
+        Err(NoRecord::InAfter(why)) => denied(Which::AfterBody, why.number, why.place),
+        Err(NoRecord::Nowhere(number)) => denied(Which::BeforeBody, number, 0),
+        Ok(x) => compare(before, after, x.at, size_of(x.edition)),
     }
 }
 
@@ -89,10 +89,10 @@ fn check_found(
     let s = section_body(before, x, n);
     let t = section_body(after, y, m);
     match find_in_both(s, t, group, channel) {
-        Both::Before(number, place) => denied(Which::BeforeBody, number, x + 8 + place),
-        Both::After(number, place) => denied(Which::AfterBody, number, y + 8 + place),
-        Both::Without(number) => denied(Which::BeforeBody, number, 0),
-        Both::At(edition, at) => compare(before, after, x + 8 + at, size_of(edition)),
+        Err(NoRecord::InBefore(why)) => denied(Which::BeforeBody, why.number, x + 8 + why.place),
+        Err(NoRecord::InAfter(why)) => denied(Which::AfterBody, why.number, y + 8 + why.place),
+        Err(NoRecord::Nowhere(number)) => denied(Which::BeforeBody, number, 0),
+        Ok(found) => compare(before, after, x + 8 + found.at, size_of(found.edition)),
     }
 }
 

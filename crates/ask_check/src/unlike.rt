@@ -23,10 +23,8 @@ fn is_same_block(s: &[u8], t: &[u8], k: usize) -> bool
     ensures { result ≡ true → SameFrom s.now t.now k 64 }
 {
     let mut n: u8 = 0;
-    let mut i: usize = 0;
-    while i < BLOCK {
-        n = n + differ(s[k + i], t[k + i]);
-        i += 1;
+    for i in 0..BLOCK {
+        n += differ(s[k + i], t[k + i]);
     }
     n == 0
 }
@@ -51,24 +49,12 @@ fn first_apart(s: &[u8], t: &[u8], k: usize, e: usize) -> usize
     requires { (k ≤ e) × ((e ≤ length s.now) × (e ≤ length t.now)) }
     ensures { result ≡ first (apart_at s.now t.now) k e }
 {
-    let mut i = skip_blocks(s, t, k, e);
-    while i < e {
+    for i in skip_blocks(s, t, k, e)..e {
         if s[i] != t[i] {
             return i;
         }
-        i += 1;
     }
     e
-}
-
-// The lesser of two numbers.
-fn least(a: usize, b: usize) -> usize
-    ensures { result ≡ min a b }
-{
-    if a < b {
-        return a;
-    }
-    b
 }
 
 // The first place at which the two have different bytes outside the n bytes at `at`, or the end of the shorter where there is none before it.
@@ -76,8 +62,8 @@ pub fn first_unlike(s: &[u8], t: &[u8], at: usize, n: usize) -> usize
     requires { at + n ≤ length s.now }
     ensures { result ≡ first_unlike s.now t.now at n }
 {
-    let end = least(s.len(), t.len());
-    let stop = least(at, end);
+    let end = s.len().min(t.len());
+    let stop = at.min(end);
     let k = first_apart(s, t, 0, stop);
     if k < stop {
         return k;

@@ -9,8 +9,8 @@ use lib.Dec.{ltb}
 use lib.ListN.{get_or}
 use Rattle.layout.specs.declared.edition.Edition.{Edition}
 use Rattle.layout.specs.declared.edition.Edition.TheVariants.{First, Second}
-use Rattle.layout.specs.declared.record.SecondTable.{SecondTable}
-use Rattle.layout.specs.declared.record.SecondTable.TheVariants.{Absent}
+use Rattle.layout.specs.Records.{SecondTable}
+use Rattle.layout.specs.Records.{Absent}
 use Rattle.layout.specs.declared.record.Set.{Set}
 use Rattle.layout.specs.declared.record.Triple.{Triple}
 use Rattle.layout.specs.declared.record.Form.{Form}

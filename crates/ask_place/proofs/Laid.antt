@@ -7,8 +7,8 @@ use Rattle.layout.specs.declared.edition.Edition.TheVariants.{First, Second}
 use Rattle.layout.specs.declared.record.Form.{Form}
 use Rattle.layout.specs.declared.record.Form.TheVariants.{One, Three}
 use Rattle.layout.specs.declared.record.Record.{Record}
-use Rattle.layout.specs.declared.record.SecondTable.{SecondTable}
-use Rattle.layout.specs.declared.record.SecondTable.TheVariants.{Absent}
+use Rattle.layout.specs.Records.{SecondTable}
+use Rattle.layout.specs.Records.{Absent}
 use Rattle.layout.specs.Records.{set_bytes, tail_bytes, triple_bytes, form_bytes, head_bytes, bytes_of, set_at, tail_at, form_of, record_with, record_of, form_edition, form_second, edition_of, second_in, bad_byte, first_bad, laid_out}
 use Rattle.layout.specs.Place.{set_for, table_for, note_placed}
 

@@ -1,7 +1,7 @@
 // Which set of a record places a note, and its effective table (document 01, "Placing a note"; document 02, §4). From there on placing is about one set and one table, whatever the edition.
 ghost use Rattle.std.specs.Prelude.{◌≡◌, ◌<◌, ◌≤◌, length};
 ghost use Rattle.layout.specs.declared.edition.Edition.TheVariants.{Second};
-ghost use Rattle.layout.specs.declared.record.SecondTable.TheVariants.{Absent};
+ghost use Rattle.layout.specs.Records.{Absent};
 ghost use Rattle.layout.specs.Records.{form_of};
 ghost use Rattle.layout.specs.Place.{effective, set_for, bypass, fixed};
 
@@ -15,8 +15,8 @@ pub fn effective_table(second: SecondTable, table: u8) -> u8
     ensures { result ≡ effective second table }
 {
     match second {
-        SecondTable::Value(v) => v,
-        SecondTable::Absent => {
+        Some(v) => v,
+        None => {
             let becomes = [0x00, 0x01, 0x02, 0x81, 0x03, 0x05];
             becomes[table as usize]
         }

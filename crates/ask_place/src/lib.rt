@@ -6,7 +6,7 @@ pub mod choose;
 ghost use Rattle.std.specs.Prelude.{◌≡◌, ◌||◌, ◌<◌, ◌≤◌, leb, length, pos};
 ghost use Rattle.std.specs.Int.Signed.{mag};
 ghost use Rattle.layout.specs.declared.edition.Edition.TheVariants.{First, Second};
-ghost use Rattle.layout.specs.declared.record.SecondTable.TheVariants.{Absent};
+ghost use Rattle.layout.specs.Records.{Absent};
 ghost use Rattle.layout.specs.Answers.{refused, granted};
 ghost use Rattle.layout.specs.Editions.{held};
 ghost use Rattle.layout.specs.Place.{note_count, shift, folded, nearest, heard, placed};
@@ -104,13 +104,13 @@ fn hear(value: i32, low: u8, high: u8) -> u8
     n as u8
 }
 
-// The answer that is a refusal: note 0.
+// The answer that is a refusal: note 0. The promise `NotePlaced` and C have this answer, and each of its three calls would make it of a Result again.
 fn refusal(number: u8, place: usize) -> Placed
     ensures { result ≡ placed (refused number place) }
 {
     Placed {
-        number: number,
-        place: place,
+        number,
+        place,
         note: 0,
     }
 }
@@ -122,7 +122,7 @@ fn told(note: u8) -> Placed
     Placed {
         number: 0,
         place: 0,
-        note: note,
+        note,
     }
 }
 
@@ -130,10 +130,7 @@ fn told(note: u8) -> Placed
 fn is_bad_number(root: u8, note: u8) -> bool
     ensures { result ≡ leb root_count root || leb note_count note }
 {
-    if ROOT < root {
-        return true;
-    }
-    NOTE < note
+    ROOT < root || NOTE < note
 }
 
 // The note that a set and its effective table give, from a source root: 17, or the note.
@@ -149,6 +146,7 @@ fn place_by(set: Set, table: u8, from: u8, root: u8, note: u8) -> Placed
 }
 
 // The note that a Ctab gives, of the bytes at the start of b and its Cntt.
+// Two functions and no generic one: a Ctab has one set and its effective table, a Ctb2 three sets of which the note takes one (docs/DECISIONS.md); what they share is `place_by`.
 pub fn place_ctab(b: &[u8], second: SecondTable, root: u8, note: u8) -> Placed
     requires { held First ≤ length b.now }
     ensures { NotePlaced (record_of First b.now second 0) root note result }
@@ -173,7 +171,7 @@ pub fn place_ctb2(b: &[u8], root: u8, note: u8) -> Placed
     if is_bad_number(root, note) {
         return refusal(BAD_NUMBER, 0);
     }
-    let bad = first_bad_of(Edition::Second, b, SecondTable::Absent);
+    let bad = first_bad_of(Edition::Second, b, None);
     if bad < SECOND_RECORD {
         return refusal(OUT_OF_RANGE, bad);
     }

@@ -12,7 +12,7 @@ use Rattle.layout.specs.Lists.{rows}
 use Rattle.layout.specs.declared.edition.Edition.{Edition}
 use Rattle.layout.specs.declared.record.SourceChannel.{SourceChannel}
 use Rattle.layout.specs.declared.record.Record.{Record}
-use Rattle.layout.specs.declared.turn.Run.TheVariants.{Ended}
+use Rattle.layout.specs.Scan.{Ended}
 use Rattle.layout.specs.Records.{blank, channel_of}
 use Rattle.layout.specs.Group.{payload, Group, ctab_place, ctab_channel, record_at, group_of}
 use Rattle.layout.specs.Body.{group_place, body_run, group_value, group_no}

@@ -8,7 +8,7 @@ use lib.ListN.{drop}
 use Rattle.layout.specs.Lists.{those, rows}
 use Rattle.layout.specs.declared.edition.Edition.{Edition}
 use Rattle.layout.specs.declared.record.Record.{Record}
-use Rattle.layout.specs.declared.turn.Judged.TheVariants.{Sound}
+use Rattle.layout.specs.Group.{Sound}
 use Rattle.layout.specs.declared.answer.Standing.{Standing}
 use Rattle.layout.specs.Group.{group_at, ctab_place, ctab_channel, record_at}
 use Rattle.layout.specs.Body.{group_place, group_value, group_no}

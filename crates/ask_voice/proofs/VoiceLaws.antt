@@ -1,64 +1,56 @@
--- The voice name: the eight bytes looked at from behind, one law for each way out of the search, and the part that the answer names.
+-- The voice name: its bytes looked at from behind, one law for each way out of the search, and the part that the answer names.
 use Prim.Native.Nat.{ℕ, suc, ◌+◌, ◌-◌, ◌≤◌, ◌<◌}
 use native.Mathlib.Omega.{arith}
 use mathlib.Core.Path.{◌≡◌, refl, sym, ap, ◌∙◌}
 use mathlib.Core.List.{List, [], ◌∷◌, ◌++◌}
-use lib.ListN.{length, get_or, take, drop, length-take, length-drop}
-use lib.Seq.{take-suc, take-take, length-take-le, get_or-drop}
+use lib.ListN.{length, get_or, take, drop, length-take}
+use lib.Seq.{take-suc, take-take, take-length}
 use Rattle.layout.specs.declared.answer.Spanned.{Spanned}
-use Rattle.layout.specs.declared.edition.Edition.{Edition}
 use Rattle.layout.specs.Answers.{Answer, refused, granted, number_of, place_of, value_or, part_of, Span, nothing, spanned}
 use Rattle.layout.specs.Asked.{Whereabouts, of_record, channel_found}
 use Rattle.layout.specs.Voice.{trimmed, voice_bytes, voice_name, voice_span_at, voice_span}
 use Rattle.layout.proofs.Editions.{size_least}
-use Rattle.read_find.specs.declared.row.Sought.{Sought}
-use Rattle.read_find.specs.declared.row.Sought.TheVariants.{Refused as No, At}
-use Rattle.read_find.specs.Row.{sought}
+use Rattle.std.specs.Prelude.{Ok, Err}
+use Rattle.layout.specs.declared.turn.Refusal.{Refusal}
+use Rattle.read_find.specs.declared.row.Row.{Row}
+use Rattle.read_find.specs.Row.{Sought, sought}
 use Rattle.read_find.proofs.RowLaws.{record_refused, record_there, record_within}
 use Rattle.ask_voice.proofs.Trimming.{shown_is_start, shown_within, last_left_off, last_shown}
 
--- ---- the eight bytes of the record at `at`, from behind
+-- ---- the bytes that are left, from behind
 
-module _ (s : List ℕ) (at : ℕ) where
-  pub shown_start : trimmed (voice_bytes s at) ≡ trimmed (take 8 (drop (at + 1) s))
-  unfolding voice_bytes
-  shown_start = refl
+pub shown_start : (s : List ℕ) (at : ℕ) → trimmed (voice_bytes s at) ≡ trimmed (take (at + 9 - (at + 1)) (drop (at + 1) s))
+unfolding voice_bytes
+shown_start s at = let z : at + 9 - (at + 1) ≡ 8 = omega arith in rw z
 
-  module _ (n : ℕ) (l : at + 9 ≤ length s) (h : 0 < n) (k : n ≤ 8) (e : trimmed (voice_bytes s at) ≡ trimmed (take n (drop (at + 1) s))) where
-    long : n ≤ length (drop (at + 1) s)
-    long = rw length-drop (omega arith)
+module _ (t : List ℕ) (l : 1 ≤ length t) where
+  last : t ≡ take (length t - 1) t ++ (get_or t (length t - 1) 0 ∷ [])
+  last =
+      let y : suc (length t - 1) ≡ length t = omega arith in
+      rw (y, take-length t) at (take-suc t (length t - 1) 0 (omega arith))
 
-    last : take n (drop (at + 1) s) ≡ take (n - 1) (drop (at + 1) s) ++ (get_or s (at + n) 0 ∷ [])
-    last =
-        let y : suc (n - 1) ≡ n = omega arith in
-        let z : at + 1 + (n - 1) ≡ at + n = omega arith in
-        rw (y, get_or-drop (at + 1) s (n - 1) 0, z) at (take-suc (drop (at + 1) s) (n - 1) 0 (omega (arith, long)))
+  pub shown_here : (get_or t (length t - 1) 0 ≡ 0x20 → ⊥) → trimmed t ≡ t
+  shown_here d = ap trimmed last ∙ (last_shown (take (length t - 1) t) (get_or t (length t - 1) 0) d ∙ sym last)
 
-    pub shown_here : (get_or s (at + n) 0 ≡ 0x20 → ⊥) → n ≡ length (trimmed (voice_bytes s at))
-    shown_here d =
-        let q : trimmed (take n (drop (at + 1) s)) ≡ take n (drop (at + 1) s) = ap trimmed last ∙ (last_shown (take (n - 1) (drop (at + 1) s)) (get_or s (at + n) 0) d ∙ sym last) in
-        sym (ap length (e ∙ q) ∙ length-take-le n (drop (at + 1) s) long)
+  pub shown_next : get_or t (length t - 1) 0 ≡ 0x20 → trimmed t ≡ trimmed (take (length t - 1) t)
+  shown_next d = ap trimmed last ∙ last_left_off (take (length t - 1) t) (get_or t (length t - 1) 0) d
 
-    pub shown_next : get_or s (at + n) 0 ≡ 0x20 → trimmed (voice_bytes s at) ≡ trimmed (take (n - 1) (drop (at + 1) s))
-    shown_next d = e ∙ (ap trimmed last ∙ last_left_off (take (n - 1) (drop (at + 1) s)) (get_or s (at + n) 0) d)
-
-  pub shown_none : (n : ℕ) → trimmed (voice_bytes s at) ≡ trimmed (take n (drop (at + 1) s)) → n ≡ 0 → 0 ≡ length (trimmed (voice_bytes s at))
-  unfolding trimmed
-  shown_none n e z =
-      let q : trimmed (take n (drop (at + 1) s)) ≡ [] = rw z refl in
-      sym (ap length (e ∙ q))
+pub shown_none : (t : List ℕ) → length t < 1 → trimmed t ≡ t
+unfolding trimmed
+shown_none [] l = refl
+shown_none (b ∷ t) l = absurd (omega arith)
 
 -- ---- the ways out of the search
 
 module _ (s : List ℕ) (g channel : ℕ) where
-  pub voice_no : (a b : ℕ) → sought (channel_found s g channel) ≡ No a b → ◌≡◌ {A = Spanned} (record { number = a; place = b; start = 0; length = 0 }) (spanned (voice_span s g channel))
+  pub voice_no : (why : Refusal) → sought (channel_found s g channel) ≡ Err why → ◌≡◌ {A = Spanned} (record { number = why.number; place = why.place; start = 0; length = 0 }) (spanned (voice_span s g channel))
   unfolding voice_span spanned number_of place_of value_or
-  voice_no a b h = rw (record_refused s g channel (λ row. granted (voice_span_at s row.at)) a b h)
+  voice_no why h = rw (record_refused s g channel (λ row. granted (voice_span_at s row.at)) why.number why.place h)
 
-  pub voice_at : (f : Edition) (i at n : ℕ) → sought (channel_found s g channel) ≡ At f i at → n ≡ length (trimmed (voice_bytes s at))
-      → ◌≡◌ {A = Spanned} (record { number = 0; place = 0; start = at + 1; length = n }) (spanned (voice_span s g channel))
+  pub voice_at : (row : Row) (n : ℕ) → sought (channel_found s g channel) ≡ Ok row → n ≡ length (trimmed (voice_bytes s row.at))
+      → ◌≡◌ {A = Spanned} (record { number = 0; place = 0; start = row.at + 1; length = n }) (spanned (voice_span s g channel))
   unfolding voice_span spanned number_of place_of value_or
-  voice_at f i at n h e = rw (record_there s g channel (λ row. granted (voice_span_at s row.at)) f i at h, e)
+  voice_at row n h e = rw (record_there s g channel (λ row. granted (voice_span_at s row.at)) row.edition row.row row.at h, e)
 
 -- ---- the part that the answer names
 
@@ -104,8 +96,10 @@ module _ (s : List ℕ) (g channel : ℕ) where
       part row = granted (trimmed (voice_bytes s row.at))
 
       go : (x : Sought) → sought (channel_found s g channel) ≡ x → Alike s (of_record s g channel span) (of_record s g channel part)
-      go (No a b) e = rw (record_refused s g channel span a b e, record_refused s g channel part a b e) (alike_refused s a b)
-      go (At f i at) e = rw (record_there s g channel span f i at e, record_there s g channel part f i at e) (alike_shown s at (omega (arith, record_within s g channel f i at e, size_least f)))
+      go (Err why) e = rw (record_refused s g channel span why.number why.place e, record_refused s g channel part why.number why.place e) (alike_refused s why.number why.place)
+      go (Ok x) e =
+          rw (record_there s g channel span x.edition x.row x.at e, record_there s g channel part x.edition x.row x.at e)
+          (alike_shown s x.at (omega (arith, record_within s g channel x.edition x.row x.at e, size_least x.edition)))
 
   module _ (r : Spanned) (e : r ≡ spanned (voice_span s g channel)) where
     pub voice_within : r.start + r.length ≤ length s

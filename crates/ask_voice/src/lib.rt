@@ -7,21 +7,18 @@ ghost use Rattle.layout.specs.Promises.{VoiceFound, VoiceShown};
 
 use layout::answer::Spanned;
 use layout::record::SourceChannel;
-use read_find::row::{Sought, find_record};
+use read_find::row::find_record;
 
 // How many bytes of the voice name are shown of the record whose byte 0 stands at `at`: trailing 20H bytes are left off.
 fn shown_length(s: &[u8], at: usize) -> usize
     requires { at + 9 ≤ length s.now }
     ensures { result ≡ length (trimmed (voice_bytes s.now at)) }
 {
-    let mut n: usize = 8;
-    while n > 0 {
-        if s[at + n] != 0x20 {
-            return n;
-        }
-        n -= 1;
+    let mut name = &s[at + 1..at + 9];
+    while let [rest @ .., 0x20] = name {
+        name = rest;
     }
-    0
+    name.len()
 }
 
 // Where the voice name of a source channel's record stands, its trailing spaces left off.
@@ -29,18 +26,18 @@ pub fn find_voice(s: &[u8], group: usize, channel: SourceChannel) -> Spanned
     ensures { VoiceFound s.now group channel.0 result }
 {
     match find_record(s, group, channel) {
-        Sought::Refused(number, place) => Spanned {
-            number: number,
-            place: place,
+        Err(why) => Spanned {
+            number: why.number,
+            place: why.place,
             start: 0,
             length: 0,
         },
-        Sought::At(_, _, at) => {
-            let n = shown_length(s, at);
+        Ok(row) => {
+            let n = shown_length(s, row.at);
             Spanned {
                 number: 0,
                 place: 0,
-                start: at + 1,
+                start: row.at + 1,
                 length: n,
             }
         }

@@ -4,7 +4,7 @@ use mathlib.Core.Path.{◌≡◌, ap, subst, ◌∙◌}
 use mathlib.Core.List.{List, map}
 use Rattle.layout.specs.declared.edition.Edition.TheVariants.{First}
 use Rattle.layout.specs.declared.record.SourceChannel.{SourceChannel}
-use Rattle.layout.specs.declared.record.SecondTable.{SecondTable}
+use Rattle.layout.specs.Records.{SecondTable}
 use Rattle.layout.specs.declared.lock.Override.{Override}
 use Rattle.layout.specs.declared.record.Record.{Record}
 use Rattle.layout.specs.declared.answer.Answered.{Answered}

@@ -8,10 +8,8 @@ use lib.ListN.{drop}
 use borrow.Author.Tests.{ne_eqb, eqb-true}
 use Rattle.layout.specs.declared.edition.Edition.{Edition}
 use Rattle.layout.specs.declared.edition.Edition.TheVariants.{First, Second}
-use Rattle.layout.specs.declared.turn.Run.{Run}
-use Rattle.layout.specs.declared.turn.Run.TheVariants.{Stopped, Ended}
-use Rattle.layout.specs.declared.turn.Judged.{Judged}
-use Rattle.layout.specs.declared.turn.Judged.TheVariants.{Unsound, Sound}
+use Rattle.layout.specs.Scan.{Run}
+use Rattle.layout.specs.Group.{Judged}
 use Rattle.layout.specs.declared.answer.Grouped.{Grouped}
 use Rattle.layout.specs.declared.answer.Standing.{Standing}
 use Rattle.layout.specs.Answers.{refused, granted, after_run, value_or, nowhere, grouped}
@@ -22,6 +20,7 @@ use Rattle.layout.proofs.GroupSound.{Contents, contents_sound_is, empty_first, g
 use Rattle.c_row.specs.Rows.{edition_by, edition_number}
 use Rattle.c_export.specs.declared.answer.Bounds.{Bounds}
 use Rattle.c_export.specs.Crossing.{edition_told, GroupCrossed}
+use Rattle.std.specs.Prelude.{Ok, Err}
 
 -- what is told of no record, and of some
 pub told_none : (e : Edition) (n : ℕ) → n ≡ 0 → 0 ≡ edition_told e n
@@ -38,11 +37,11 @@ Empty x = x.records ≡ 0 → x.edition ≡ First
 
 standing_empty : (s : List ℕ) (at : ℕ) (j : Judged) → group_at (drop at s) ≡ j → Empty (standing_at s at j)
 unfolding standing_at
-standing_empty s at (Unsound number place) e h = refl
-standing_empty s at (Sound ed t n m) e h =
+standing_empty s at (Err why) e h = refl
+standing_empty s at (Ok x) e h =
     let p = drop at s in
-    let is = contents_sound_is (payload p) ed t n m (group_sound_is p ed t n m e).inside in
-    empty_first (payload p) ed t m (subst (λ (k : ℕ). Contents (payload p) ed t k m) h is)
+    let is = contents_sound_is (payload p) x.edition x.text x.ctabs x.cntts (group_sound_is p x.edition x.text x.ctabs x.cntts e).inside in
+    empty_first (payload p) x.edition x.text x.cntts (subst (λ (k : ℕ). Contents (payload p) x.edition x.text k x.cntts) h is)
 
 found_empty : (s : List ℕ) (g : ℕ) → Empty (grouped (group_found s g)).group
 unfolding grouped value_or group_found of_group after_run standing
@@ -53,8 +52,8 @@ found_empty s g = go (body_run s)
     there false h = standing_empty s (group_place s g) (group_at (drop (group_place s g) s)) refl h
 
     go : (r : Run) → Empty (value_or nowhere (after_run r (λ n. cond (leb n g) (refused 16 0) (granted (standing s g)))))
-    go (Stopped number place) h = refl
-    go (Ended n) h = there (leb n g) h
+    go (Err why) h = refl
+    go (Ok n) h = there (leb n g) h
 
 -- .. so the number that is told stands for the edition
 number_stands : (e : Edition) → edition_by (edition_number e) ≡ e

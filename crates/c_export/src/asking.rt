@@ -1,7 +1,7 @@
 // The questions: who plays under a chord, what a voice is called, and where a note goes (document 01, "Who plays", "Placing a note").
 ghost use Rattle.layout.specs.Promises.{PlaysTold, VoiceFound, NotePlaced};
 ghost use Rattle.layout.specs.declared.edition.Edition.TheVariants.{First, Second};
-ghost use Rattle.layout.specs.declared.record.SecondTable.TheVariants.{Absent};
+ghost use Rattle.layout.specs.Records.{Absent};
 ghost use Rattle.layout.specs.Records.{record_of};
 ghost use Rattle.c_row.specs.Rows.{second_by, recorded};
 ghost use Rattle.c_export.specs.Crossing.{as_spanned, as_played, as_placed};
@@ -26,7 +26,7 @@ pub extern "C" fn casm_plays(body: &[u8], part: &[u8], root: u8, kind: u8) -> Pl
         number: x.number,
         place: x.place,
         count: x.count,
-        channels: channels,
+        channels,
     }
 }
 

@@ -6,9 +6,9 @@ ghost use Rattle.c_row.specs.Rows.{recorded};
 ghost use Rattle.c_export.specs.Crossing.{answered, edit_of, override_by};
 
 use crate::answer::{Answer, Edited};
-use c_row::row::{Row, recorded, row_of};
+use c_row::row::Row;
 use layout::lock::Override;
-use layout::record::SourceChannel;
+use layout::record::{Record, SourceChannel};
 
 // The number by which a caller in C asks to override a lock.
 pub const OVERRIDE: u8 = 1;
@@ -28,7 +28,7 @@ fn override_by(number: u8) -> Override
 pub extern "C" fn casm_edit(body: &mut [u8], group: usize, source: u8, row: Row, over: u8) -> Answer
     ensures { RecordEdited body.old group source (recorded row) (override_by over) (answered result) body.new }
 {
-    let new = recorded(row);
+    let new = Record::from(row);
     let asked = override_by(over);
     let x = casm::editing::edit_record(body, group, SourceChannel(source), new, asked);
     Answer {
@@ -48,7 +48,7 @@ pub extern "C" fn casm_edit_file(
 ) -> Answer
     ensures { FileEdited file.old part.now source (recorded row) (override_by over) (answered result) file.new }
 {
-    let new = recorded(row);
+    let new = Record::from(row);
     let asked = override_by(over);
     let x = casm::editing::edit_file(file, part, SourceChannel(source), new, asked);
     Answer {
@@ -62,9 +62,9 @@ pub extern "C" fn casm_edit_file(
 pub extern "C" fn casm_field(row: Row, index: usize, value: u8) -> Edited
     ensures { result ≡ edit_of (changed (recorded row) (field_set (recorded row) index value)) }
 {
-    let x = casm::field::set_field(recorded(row), index, value);
+    let x = casm::field::set_field(Record::from(row), index, value);
     let held = x.held;
-    let told = row_of(held);
+    let told = Row::from(held);
     Edited {
         number: x.number,
         place: x.place,

@@ -40,7 +40,7 @@ fn check_of(c: Checked) -> Check
         number: c.number,
         place: c.place,
         which: n,
-        yes: yes,
+        yes,
         unlike: c.unlike,
     }
 }

@@ -91,7 +91,7 @@ pub extern "C" fn casm_group(body: &[u8], group: usize) -> Bounds
         records: g.records,
         cntts_at: g.cntts,
         cntts: g.seconds,
-        edition: edition,
+        edition,
     }
 }
 

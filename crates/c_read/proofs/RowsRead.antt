@@ -1,8 +1,10 @@
 -- A plan for reading a group's records carried out into a flat table: its records are laid one behind the other.
 use Prim.Native.Nat.{ℕ, ◌+◌, ◌-◌, ◌*◌, ◌≤◌, ◌<◌}
 use native.Mathlib.Omega.{arith}
-use mathlib.Core.Path.{◌≡◌, sym, ap, ◌∙◌}
-use mathlib.Core.List.{List, [], ◌∷◌, ◌++◌, flat_map}
+use mathlib.Core.Path.{◌≡◌, refl, sym, ap, ◌∙◌}
+use Rattle.std.specs.Prelude.{Result, Ok, Err}
+use Rattle.layout.specs.declared.turn.Refusal.{Refusal}
+use mathlib.Core.List.{List, [], ◌++◌, flat_map}
 use lib.ListN.{length, take, drop}
 use lib.Seq.{take_all}
 use borrow.Rule.Slice.PartMut.{mid_of, put_mid}
@@ -14,7 +16,7 @@ use Rattle.layout.specs.declared.record.Record.{Record}
 use Rattle.layout.specs.declared.answer.Counted.{Counted}
 use Rattle.layout.proofs.Lists.{rows_length, get_d_rows}
 use Rattle.read_table.specs.declared.Reading.{Reading}
-use Rattle.read_table.specs.Reading.{told_of, planned_record, ReadingPlanned}
+use Rattle.read_table.specs.Reading.{told_of, planned_record, ReadingGranted, ReadingPlanned}
 use Rattle.read_table.proofs.Plans.{told_answer}
 use Rattle.c_row.specs.Flat.{row_size, lent_rows, row_bytes, RowsRead}
 use Rattle.c_row.proofs.Flats.{rows_lent}
@@ -45,16 +47,31 @@ lent f n before (granted xs) e =
     let long : row_size * n ≡ length (flat_map row_bytes (rows f 0 n)) = omega (arith, rows_long (rows f 0 n), z) in
     rw (e, all, long)
 
-module _ (body before : List ℕ) (group room : ℕ) (p : Reading) (e : room ≡ lent_rows (length before)) (h : ReadingPlanned body group room p) where
-  pub count_lent : row_size * p.count ≤ length before
-  count_lent = omega (arith, h.fits, rows_lent room (length before) e)
+module _ (body before : List ℕ) (group room : ℕ) (e : room ≡ lent_rows (length before)) where
+  module _ (p : Reading) (h : ReadingGranted body group room p) where
+    pub count_lent : row_size * p.count ≤ length before
+    count_lent = omega (arith, h.fits, rows_lent room (length before) e)
 
-  pub rows_read : (r : Counted) → r ≡ told_of p → (after : List ℕ) → after ≡ laid_from (planned_record body p) p.count p.count before → RowsRead body group before r after
-  rows_read r t after q =
+    pub rows_read : (r : Counted) → r ≡ told_of (Ok p) → (after : List ℕ) → after ≡ laid_from (planned_record body p) p.count p.count before → RowsRead body group before r after
+    unfolding value_or
+    rows_read r t after q =
+        let is : value_or [] (records_read body group room) ≡ rows (planned_record body p) 0 p.count = ap (value_or []) h.records in
+        record {
+          answer = told_answer body group room (Ok p) r h t ∙ ap (λ (k : ℕ). counted_all (records_read body group k)) e;
+          table =
+              q
+              ∙ (lent (planned_record body p) p.count before (records_read body group room) is
+              ∙ ap (λ (k : ℕ). lent_after (retold (flat_map row_bytes) (records_read body group k)) before) e);
+        }
+
+  -- .. and where the plan refuses nothing is laid
+  pub none_read : (plan : Result Reading Refusal) → ReadingPlanned body group room plan → ((p : Reading) → plan ≡ Ok p → ⊥) → (r : Counted) → r ≡ told_of plan → RowsRead body group before r before
+  unfolding lent_after retold
+  none_read (Ok p) h other r t = absurd (other p refl)
+  none_read (Err why) h other r t =
       record {
-        answer = told_answer body group room p r h t ∙ ap (λ (k : ℕ). counted_all (records_read body group k)) e;
+        answer = told_answer body group room (Err why) r h t ∙ ap (λ (k : ℕ). counted_all (records_read body group k)) e;
         table =
-            q
-            ∙ (lent (planned_record body p) p.count before (records_read body group room) h.records
-            ∙ ap (λ (k : ℕ). lent_after (retold (flat_map row_bytes) (records_read body group k)) before) e);
+            sym (ap (λ a. lent_after (retold (flat_map row_bytes) a) before) h)
+            ∙ ap (λ (k : ℕ). lent_after (retold (flat_map row_bytes) (records_read body group k)) before) e;
       }

@@ -21,17 +21,16 @@ fn put_row(out: &mut [u8], r: Record)
 }
 
 // Fills a lent flat table with the records of a group, up to their count, and answers how many there are; later bytes are kept.
-// All that can be refused is in the plan, whose count is then 0: nothing is laid.
+// All that can be refused is in the plan: where there is none, nothing is laid.
 pub fn read_rows(s: &[u8], group: usize, flat: &mut [u8]) -> Counted
     ensures { RowsRead s.now group flat.old result flat.new }
 {
     let plan = plan_records(s, group, row_count(flat.len()));
-    let n = plan.count;
-    let mut i: usize = 0;
-    while i < n {
-        let at = ROW * i;
-        put_row(&mut flat[at..], record_at(s, plan, i));
-        i += 1;
+    if let Ok(reading) = plan {
+        for i in 0..reading.count {
+            let at = ROW * i;
+            put_row(&mut flat[at..], record_at(s, reading, i));
+        }
     }
     counted(plan)
 }

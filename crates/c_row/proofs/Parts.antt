@@ -7,7 +7,7 @@ use lib.ListN.{length, get_or, take, drop, length-drop, length-take, drop_of_len
 use lib.Seq.{take_all, take-take}
 use Rattle.layout.specs.declared.edition.Edition.{Edition}
 use Rattle.layout.specs.declared.edition.Edition.TheVariants.{Second}
-use Rattle.layout.specs.declared.record.SecondTable.{SecondTable}
+use Rattle.layout.specs.Records.{SecondTable}
 use Rattle.layout.specs.Editions.{held}
 use Rattle.layout.specs.Records.{bytes_of, record_of}
 use Rattle.layout.proofs.Editions.{held_spare}

@@ -1,16 +1,16 @@
 -- A list of known length is its elements, and a second table is there or not: so a row spelled out is the record's.
 use Prim.Native.Nat.{ℕ, zero, suc}
-use mathlib.Core.Path.{◌≡◌, refl, sym, ap, ap₂, subst, ◌∙◌}
+use mathlib.Core.Path.{◌≡◌, refl, sym, ap, subst, ◌∙◌}
 use mathlib.Core.Bool.{Bool, cond}
 use mathlib.Core.List.{List, [], ◌∷◌, ◌++◌}
 use lib.ListN.{length, get_or}
 use borrow.Author.Tests.{eq-eqb, ne_eqb}
-use Rattle.layout.specs.declared.record.SecondTable.{SecondTable}
-use Rattle.layout.specs.declared.record.SecondTable.TheVariants.{Absent, Value}
+use Rattle.layout.specs.Records.{SecondTable}
+use Rattle.layout.specs.Records.{Absent, Value}
 use Rattle.layout.specs.declared.record.Record.{Record}
 use Rattle.layout.specs.declared.edition.Edition.{Edition}
 use Rattle.layout.specs.declared.edition.Edition.TheVariants.{First, Second}
-use Rattle.layout.specs.Records.{record_of, edition_of, second_in, position_in, laid_out}
+use Rattle.layout.specs.Records.{edition_of, second_in, position_in, laid_out}
 use Rattle.layout.proofs.Records.{laid_length}
 use Rattle.c_row.specs.Rows.{edition_by, edition_number, second_by, has_of, value_of, row_for}
 use Rattle.c_row.specs.Flat.{row_bytes}
@@ -47,11 +47,6 @@ edition_second n h = sym (rw h)
 pub edition_first : (n : ℕ) → (n ≡ 2 → ⊥) → First ≡ edition_by n
 unfolding edition_by
 edition_first n h = sym (rw (ne_eqb n 2 h))
-
--- the record of a row's bytes, and of the edition and the second table that were made of the others
-pub record_made : (e f : Edition) (b : List ℕ) (second told : SecondTable) (position : ℕ) (r : Record) → e ≡ f → second ≡ told
-    → r ≡ record_of e b second position → r ≡ record_of f b told position
-record_made e f b second told position r d s h = h ∙ ap₂ (λ (x : Edition) (y : SecondTable). record_of x b y position) d s
 
 -- a record by what is told of it
 module _ (r : Record) (e : Edition) (t : SecondTable) (number has value position : ℕ) (b : List ℕ) (is : e ≡ edition_of r) (told : t ≡ second_in r) (n : number ≡ edition_number e)

@@ -1,11 +1,11 @@
 -- A channel record as a row of 51 bytes, the same for both editions, and a source channel as a number: what crosses to C and is no answer.
-use Rattle.std.specs.Prelude.{ℕ, cond, eqb}
+use Rattle.std.specs.Prelude.{ℕ, cond, eqb, None, Some}
 use Rattle.layout.specs.Records.{record_of, edition_of, second_in, position_in, laid_out}
 use Rattle.layout.specs.declared.edition.Edition.{Edition}
 use Rattle.layout.specs.declared.edition.Edition.TheVariants.{First, Second}
 use Rattle.layout.specs.declared.record.SourceChannel.{SourceChannel}
-use Rattle.layout.specs.declared.record.SecondTable.{SecondTable}
-use Rattle.layout.specs.declared.record.SecondTable.TheVariants.{Absent, Value}
+use Rattle.layout.specs.Records.{SecondTable}
+use Rattle.layout.specs.Records.{Absent, Value}
 use Rattle.layout.specs.declared.record.Record.{Record}
 use Rattle.c_row.specs.declared.row.Row.{Row}
 
@@ -32,13 +32,13 @@ recorded r = record_of (edition_by r.edition) r.bytes (second_by r.has_cntt r.cn
 
 -- whether a second table is there
 unfoldable pub has_of : SecondTable → ℕ
-has_of Absent = 0
-has_of (Value v) = 1
+has_of None = 0
+has_of (Some v) = 1
 
 -- .. and its value
 unfoldable pub value_of : SecondTable → ℕ
-value_of Absent = 0
-value_of (Value v) = v
+value_of None = 0
+value_of (Some v) = v
 
 -- a record as it crosses back: 00 in place of the bytes that its edition does not use
 unfoldable pub row_for : Record → Row

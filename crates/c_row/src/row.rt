@@ -26,6 +26,7 @@ pub const POSITION_AT: usize = 50;
 
 // A channel record: its edition, its bytes (the first edition uses 26 of them), whether it has a Cntt (0 for none), the Cntt's value and its position. 51 bytes, as in a flat table.
 // The bytes that its edition does not use are not looked at, nor is a Cntt of the second edition.
+// C has it so: its edition is a number, and its Cntt two, where the library has enums.
 #[repr(C)]
 #[derive(Clone, Copy)]
 pub struct Row {
@@ -37,6 +38,7 @@ pub struct Row {
 }
 
 // A row's edition: any number but 2 is the first, for a caller that knows one edition.
+// Two functions and no `From`: an edition and a number are both of other crates, and an impl can't stand here.
 pub fn edition_by(number: u8) -> Edition
     ensures { result ≡ edition_by number }
 {
@@ -61,9 +63,9 @@ pub fn second_by(has_cntt: u8, cntt: u8) -> SecondTable
     ensures { result ≡ second_by has_cntt cntt }
 {
     if has_cntt == 0 {
-        return SecondTable::Absent;
+        return None;
     }
-    SecondTable::Value(cntt)
+    Some(cntt)
 }
 
 // Whether there is one ..
@@ -71,8 +73,8 @@ fn has_of(second: SecondTable) -> u8
     ensures { result ≡ has_of second }
 {
     match second {
-        SecondTable::Absent => 0,
-        SecondTable::Value(_) => 1,
+        None => 0,
+        Some(_) => 1,
     }
 }
 
@@ -81,8 +83,8 @@ fn value_of(second: SecondTable) -> u8
     ensures { result ≡ value_of second }
 {
     match second {
-        SecondTable::Absent => 0,
-        SecondTable::Value(v) => v,
+        None => 0,
+        Some(v) => v,
     }
 }
 
@@ -94,31 +96,35 @@ fn made(edition: Edition, bytes: [u8; SECOND_RECORD], second: SecondTable, posit
 }
 
 // The record itself.
-pub fn recorded(row: Row) -> Record
-    ensures { result ≡ recorded row }
-{
-    let bytes = row.bytes;
-    let edition = edition_by(row.edition);
-    let second = second_by(row.has_cntt, row.cntt);
-    made(edition, bytes, second, row.position)
+impl From<Row> for Record {
+    ghost from_gives = { λ row r. r ≡ recorded row };
+
+    fn from(row: Row) -> Record {
+        let bytes = row.bytes;
+        let edition = edition_by(row.edition);
+        let second = second_by(row.has_cntt, row.cntt);
+        made(edition, bytes, second, row.position)
+    }
 }
 
 // A record as it crosses.
-pub fn row_of(from: Record) -> Row
-    ensures { result ≡ row_for from }
-{
-    let edition = edition_number(edition_of(from));
-    let bytes = bytes_of(from);
-    let second = second_of(from);
-    let has = has_of(second);
-    let value = value_of(second);
-    let position = position_of(from);
-    Row {
-        edition: edition,
-        bytes: bytes,
-        has_cntt: has,
-        cntt: value,
-        position: position,
+impl From<Record> for Row {
+    ghost from_gives = { λ r row. row ≡ row_for r };
+
+    fn from(from: Record) -> Row {
+        let edition = edition_number(edition_of(from));
+        let bytes = bytes_of(from);
+        let second = second_of(from);
+        let has = has_of(second);
+        let value = value_of(second);
+        let position = position_of(from);
+        Row {
+            edition,
+            bytes,
+            has_cntt: has,
+            cntt: value,
+            position,
+        }
     }
 }
 

@@ -5,6 +5,8 @@ use mathlib.Core.List.{List, ◌++◌}
 use native.Mathlib.Omega.{arith}
 use native.Mathlib.Numerals.{add-one}
 use lib.ListN.{length, get_or, take, drop, length-take}
+use Rattle.std.specs.Prelude.{Ok, Err}
+use Rattle.layout.specs.declared.turn.Refusal.{Refusal}
 use Rattle.layout.specs.Edit.{replaced}
 use Rattle.layout.specs.Bytes.{chunk}
 use Rattle.layout.specs.Editions.{tag_of, size, held, closing}
@@ -14,16 +16,15 @@ use Rattle.layout.specs.Write.{ctab_bytes}
 use Rattle.layout.specs.declared.edition.Edition.{Edition}
 use Rattle.layout.specs.declared.edition.Edition.TheVariants.{Second}
 use Rattle.layout.specs.declared.record.Record.{Record}
-use Rattle.layout.specs.declared.record.SecondTable.{SecondTable}
+use Rattle.layout.specs.Records.{SecondTable}
 use Rattle.layout.proofs.Ctabs.{place_before}
 use Rattle.layout.proofs.Lists.{rows_length, get_d_rows}
 use Rattle.layout.proofs.Records.{bytes_length}
 use Rattle.write_plan.specs.declared.Checked.{Checked}
-use Rattle.write_plan.specs.declared.Plan.{Plan}
 use Rattle.write_plan.specs.declared.Taken.{Taken}
-use Rattle.write_plan.specs.Checking.{begun, records_never, Looking as Looked, looked, laid_after, OneEdition, taken, taken_at, no_plan, planned, plan_of}
+use Rattle.write_plan.specs.Checking.{Looks, Plans, begun, records_in, records_never, Looking as Looked, looked, laid_after, OneEdition, taken, taken_at, planned, plan_of}
 use Rattle.write_plan.proofs.Length.{looking, records_within}
-use Rattle.write_plan.proofs.Looking.{taken_stays, planned_not}
+use Rattle.write_plan.proofs.Looking.{plan_stays}
 use Rattle.layout.proofs.BytesBack.{edition_made}
 use Rattle.write_chunks.proofs.Putting.{Putting, ctabs, ctabs_next}
 use Rattle.write_chunks.proofs.Stored.{ctab_put}
@@ -47,7 +48,7 @@ unfolding flat_record
 stands flat i row e = ap record_in e
 
 -- a row looked at as its edition, the bytes behind it and its last three
-pub row_looked : (x : Checked) (i : ℕ) (row bytes : List ℕ) (ed : Edition) (second : SecondTable) (y : Checked) (before after : List ℕ) → bytes ≡ drop 1 row → ed ≡ edition_by (get_or row 0 0) → second ≡ second_by (get_or row 48 0) (get_or row 49 0)
+pub row_looked : (x : Looks) (i : ℕ) (row bytes : List ℕ) (ed : Edition) (second : SecondTable) (y : Looks) (before after : List ℕ) → bytes ≡ drop 1 row → ed ≡ edition_by (get_or row 0 0) → second ≡ second_by (get_or row 48 0) (get_or row 49 0)
     → (y ≡ looked before x i (record_of ed bytes second (get_or row 50 0))) × (after ≡ laid_after before x i (record_of ed bytes second (get_or row 50 0)))
     → (y ≡ looked before x i (record_in row)) × (after ≡ laid_after before x i (record_in row))
 row_looked x i row bytes ed second y before after b is e q =
@@ -85,45 +86,49 @@ module _ (text flat : List ℕ) (count : ℕ) where
   start = begun text (length (table_of flat)) count
 
   -- .. and how many are to be looked at
-  pub record Looking (n i : ℕ) (x : Checked) (cntts : List ℕ) : Type 0 where
-    pub whole : n ≡ start.checked.records
+  pub record Looking (n i : ℕ) (x : Looks) (cntts : List ℕ) : Type 0 where
+    pub whole : n ≡ records_in start.checked
     pub some : i ≤ n
     pub so : record { checked = x; cntts = cntts } ≡ taken_at start (table_of flat) i
 
-  pub looking_start : (lent : ℕ) (t : Taken) → lent ≡ lent_rows (length flat) → t ≡ begun text lent count → Looking t.checked.records 0 t.checked t.cntts
-  unfolding taken_at
-  looking_start lent t e h =
-      let q = h ∙ ap (λ (k : ℕ). begun text k count) (e ∙ sym (table_length flat)) in
-      record { whole = ap (λ (y : Taken). y.checked.records) q; some = omega arith; so = q }
+  module _ (lent : ℕ) (t : Taken) (e : lent ≡ lent_rows (length flat)) (h : t ≡ begun text lent count) where
+    started : t ≡ start
+    started = h ∙ ap (λ (k : ℕ). begun text k count) (e ∙ sym (table_length flat))
 
-  module _ (n i : ℕ) (x : Checked) (cntts : List ℕ) (l : Looking n i x cntts) where
+    pub looking_start : (x : Checked) → t.checked ≡ Ok x → Looking x.records 0 (Ok x) t.cntts
+    unfolding taken_at records_in
+    looking_start x is =
+        let z = sym is ∙ ap (λ (y : Taken). y.checked) started in
+        record { whole = ap records_in z; some = omega arith; so = ap₂ {C = Taken} (λ (a : Looks) (b : List ℕ). record { checked = a; cntts = b }) z (ap (λ (y : Taken). y.cntts) started) }
+
+    -- before the first record
+    pub start_refused : (room : ℕ) (why : Refusal) → t.checked ≡ Err why → plan_of text (table_of flat) count room ≡ Err why
+    unfolding taken_at
+    start_refused room why is = plan_stays text (table_of flat) count room 0 why (omega arith) (sym (ap (λ (y : Taken). y.checked) started) ∙ is)
+
+  module _ (n i : ℕ) (x : Looks) (cntts : List ℕ) (l : Looking n i x cntts) where
     pub looking_lent : n ≤ lent_rows (length flat)
     looking_lent = omega (arith, l.whole, records_within text (length (table_of flat)) count, table_length flat)
 
     pub looking_on : i < records_never → Looked x i
     looking_on h = subst (λ (t : Taken). Looked t.checked i) (sym l.so) (looking text (length (table_of flat)) count (table_of flat) i h)
 
-    pub looking_next : (row : List ℕ) (y : Checked) (after : List ℕ) → i < n → row ≡ take 51 (drop (51 * i) flat)
+    pub looking_next : (row : List ℕ) (y : Looks) (after : List ℕ) → i < n → row ≡ take 51 (drop (51 * i) flat)
         → (y ≡ looked cntts x i (record_in row)) × (after ≡ laid_after cntts x i (record_in row)) → Looking n (i + 1) y after
     unfolding taken_at
     looking_next row y after h e q =
         let d = record_is flat i (record_in row) (omega (arith, looking_lent)) (stands flat i row e) in
-        let t : record { checked = y; cntts = after } ≡ taken (record { checked = x; cntts = cntts }) i (record_in row) = ap₂ {C = Taken} (λ (a : Checked) (b : List ℕ). record { checked = a; cntts = b }) q.0 q.1 in
+        let t : record { checked = y; cntts = after } ≡ taken (record { checked = x; cntts = cntts }) i (record_in row) = ap₂ {C = Taken} (λ (a : Looks) (b : List ℕ). record { checked = a; cntts = b }) q.0 q.1 in
         record { whole = l.whole; some = omega arith; so = rw (add-one i) (t ∙ ap₂ (λ (a : Taken) (b : Record). taken a i b) l.so d) }
 
     -- a refusal is the plan's, however many records follow
-    pub looking_refused : (room : ℕ) (p : Plan) → (x.number ≡ 0 → ⊥) → p ≡ no_plan x.number x.place → p ≡ plan_of text (table_of flat) count room
-    unfolding plan_of
-    looking_refused room p h q =
-        let at = ap (λ (a : Taken). a.checked) l.so in
-        let e = taken_stays start (table_of flat) i (λ z. h (ap (λ (y : Checked). y.number) at ∙ z)) start.checked.records (omega (arith, l.some, l.whole)) ∙ sym at in
-        let all = taken_at start (table_of flat) start.checked.records in
-        q ∙ (ap (λ (y : Checked). no_plan y.number y.place) (sym e) ∙ sym (planned_not all room (λ z. h (sym (ap (λ (y : Checked). y.number) e) ∙ z))))
+    pub looking_refused : (room : ℕ) (why : Refusal) → x ≡ Err why → plan_of text (table_of flat) count room ≡ Err why
+    looking_refused room why is = plan_stays text (table_of flat) count room i why (omega (arith, l.some, l.whole)) (sym (ap (λ (a : Taken). a.checked) l.so) ∙ is)
 
-    pub looking_end : (room : ℕ) (p : Plan) → n ≤ i → p ≡ planned (record { checked = x; cntts = cntts }) room → p ≡ plan_of text (table_of flat) count room
+    pub looking_end : (room : ℕ) (p : Plans) → n ≤ i → p ≡ planned (record { checked = x; cntts = cntts }) room → p ≡ plan_of text (table_of flat) count room
     unfolding plan_of
     looking_end room p h q =
-        let z : i ≡ start.checked.records = omega (arith, l.some, l.whole) in
+        let z : i ≡ records_in start.checked = omega (arith, l.some, l.whole) in
         q ∙ ap (λ (a : Taken). planned a room) (l.so ∙ ap (taken_at start (table_of flat)) z)
 
 -- ---- the Ctabs of the first i records, which are of one edition

@@ -1,7 +1,7 @@
 // A group written from a flat table of records (document 01, "Writing and editing"). The rows are taken one at a time as they stand: no record of one is made, and no table of them.
 #![tactic(auto)]
 
-ghost use Rattle.std.specs.Prelude.{◌≡◌, ◌+◌, ◌≤◌, length, take};
+ghost use Rattle.std.specs.Prelude.{◌≡◌, ◌+◌, ◌≤◌, length, take, Ok};
 ghost use mathlib.Core.List.{flat_map};
 ghost use Rattle.layout.specs.Edit.{replaced};
 ghost use Rattle.layout.specs.Editions.{size};
@@ -9,7 +9,7 @@ ghost use Rattle.layout.specs.Group.{ctab_place};
 ghost use Rattle.layout.specs.Promises.{GroupWritten};
 ghost use Rattle.layout.specs.Records.{edition_of};
 ghost use Rattle.layout.specs.Write.{ctab_bytes};
-ghost use Rattle.write_plan.specs.Checking.{Looking, looked, laid_after, OneEdition, plan_of};
+ghost use Rattle.write_plan.specs.Checking.{Looking, looked, laid_after, OneEdition, plan_of, measured_by};
 ghost use Rattle.c_row.specs.Flat.{row_size, lent_rows, record_in, table_of};
 
 use c_row::flat::row_count;
@@ -21,17 +21,17 @@ use read_record::edition::held_of;
 use write_chunks::places::put_ctab_at;
 use write_chunks::put::put_bytes;
 use write_chunks::start::put_frame;
-use write_plan::{Checked, Plan, Taken, begin, look_at_bytes, measured, no_plan, plan_for};
+use write_plan::{Checked, Looked, Planned, Taken, begin, look_at_bytes, measured, plan_for};
 
 // Row number i looked at as the record that it stands for.
-fn look_at_row(x: Checked, i: usize, row: &[u8], cntts: &mut [u8; 32]) -> Checked
-    requires { (length row.now ≡ row_size) × Looking x i }
-    ensures { (result ≡ looked cntts.old x i (record_in row.now)) × (cntts.new ≡ laid_after cntts.old x i (record_in row.now)) }
+fn look_at_row(x: Checked, i: usize, row: &[u8], cntts: &mut [u8; 32]) -> Looked
+    requires { (length row.now ≡ row_size) × Looking (Ok x) i }
+    ensures { (result ≡ looked cntts.old (Ok x) i (record_in row.now)) × (cntts.new ≡ laid_after cntts.old (Ok x) i (record_in row.now)) }
 {
     let edition = edition_by(row[0]);
     let second = second_by(row[HAS_AT], row[CNTT_AT]);
     look_at_bytes(
-        x,
+        Ok(x),
         i,
         edition,
         &row[BYTES_AT..],
@@ -43,26 +43,21 @@ fn look_at_row(x: Checked, i: usize, row: &[u8], cntts: &mut [u8; 32]) -> Checke
 
 // What writing a text and the first records of a flat table comes to: each record is looked at once.
 // Their Cntts are laid down in one place: passed by value, each record would wait for the one before. The first refusal ends it: carried along, it would be looked at with each record.
-fn plan_rows(text: &[u8], flat: &[u8], count: usize, room: usize) -> Plan
+fn plan_rows(text: &[u8], flat: &[u8], count: usize, room: usize) -> Planned
     ensures { result ≡ plan_of text.now (table_of flat.now) count room }
 {
     let start = begin(text, row_count(flat.len()), count);
-    let mut x = start.checked;
+    let mut x = start.checked?;
     let mut cntts = start.cntts;
     let n = x.records;
-    let mut i: usize = 0;
-    while i < n {
+    for i in 0..n {
         let at = ROW * i;
-        x = look_at_row(x, i, &flat[at..at + ROW], &mut cntts);
-        if x.number != 0 {
-            return no_plan(x.number, x.place);
-        }
-        i += 1;
+        x = look_at_row(x, i, &flat[at..at + ROW], &mut cntts)?;
     }
     plan_for(
         Taken {
-            checked: x,
-            cntts: cntts,
+            checked: Ok(x),
+            cntts,
         },
         room,
     )
@@ -100,21 +95,25 @@ fn put_row_ctabs(edition: Edition, flat: &[u8], n: usize, out: &mut [u8], at: us
     requires { (n ≤ lent_rows (length flat.now)) × (OneEdition edition (table_of flat.now) n × (ctab_place edition at n ≤ length out.old)) }
     ensures { out.new ≡ replaced out.old at (flat_map ctab_bytes (take n (table_of flat.now))) }
 {
-    let mut i: usize = 0;
-    while i < n {
+    for i in 0..n {
         let from = ROW * i;
         put_row_ctab(edition, out, at, i, &flat[from..from + ROW]);
-        i += 1;
     }
+}
+
+// The plan, carried out where it does not refuse.
+fn put_rows(text: &[u8], flat: &[u8], count: usize, out: &mut [u8]) -> Planned
+    ensures { GroupWritten text.now (table_of flat.now) count out.old (measured_by result) out.new }
+{
+    let plan = plan_rows(text, flat, count, out.len())?;
+    let at = put_frame(out, text, Ok(plan));
+    put_row_ctabs(plan.edition, flat, plan.records, out, at);
+    Ok(plan)
 }
 
 // Writes one group at the start of a lent buffer, from its Sdec's text and the first `count` records of a flat table; answers its length.
 pub fn write_rows(text: &[u8], flat: &[u8], count: usize, out: &mut [u8]) -> Measured
     ensures { GroupWritten text.now (table_of flat.now) count out.old result out.new }
 {
-    let plan = plan_rows(text, flat, count, out.len());
-    let edition = plan.edition;
-    let at = put_frame(out, text, plan);
-    put_row_ctabs(edition, flat, plan.records, out, at);
-    measured(plan)
+    measured(put_rows(text, flat, count, out))
 }

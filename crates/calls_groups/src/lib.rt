@@ -1,4 +1,4 @@
-// The verbs of the bench `calls` that take or give the records of a whole group: each makes one call of the library and prints the answer.
+// The verbs of the bench `calls` that take or give the records of a whole group: each takes its words, makes one call of the library and prints the answer.
 #![tactic(auto)]
 
 pub mod groups;

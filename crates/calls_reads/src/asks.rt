@@ -1,46 +1,43 @@
 // Questions to a body: who plays, and what a voice is called.
 use casm::questions::{find_voice, voice_name, who_plays};
 use layout::record::SourceChannel;
-use script_text::print::{
-    Printed, at_most, put, put_bytes, put_end, put_ok, put_refusal, put_told,
-};
-
-// The numbers of source channels.
-fn numbers_of(channels: [SourceChannel; 16]) -> [usize; 16] {
-    let mut numbers = [0usize; 16];
-    let mut i: usize = 0;
-    while i < 16 {
-        let channel = channels[i];
-        numbers[i] = channel.0 as usize;
-        i += 1;
-    }
-    numbers
-}
+use script_text::print::Printed;
+use script_words::bytes::Room;
+use script_words::word::Words;
 
 // `plays BYTES NAME ROOT TYPE`
 pub fn plays(
-    body: &[u8],
-    name: &[u8],
-    root: u8,
-    kind: u8,
+    words: &mut Words<'_>,
+    room: &mut Room,
+    name: &mut Room,
     out: &mut Printed,
-    used: usize,
-) -> usize {
+) -> Option<()> {
+    let body = words.bytes(room)?;
+    let name = words.bytes(name)?;
+    let root = words.byte()?;
+    let kind = words.byte()?;
+    words.end()?;
     let played = who_plays(body, name, root, kind);
-    let channels = played.channels;
-    let numbers = numbers_of(channels);
-    let count = at_most(played.count, 16);
-    put_told(out, used, played.number, played.place, &numbers[0..count])
+    if out.answer(played.number, played.place) {
+        for channel in played.channels.iter().take(played.count) {
+            out.number(usize::from(channel.0));
+        }
+    }
+    out.end();
+    Some(())
 }
 
 // `voice BYTES G CHANNEL`: where the name stands says whether it is refused.
-pub fn voice(body: &[u8], group: usize, channel: u8, out: &mut Printed, used: usize) -> usize {
-    let found = find_voice(body, group, SourceChannel(channel));
-    if found.number != 0 {
-        return put_refusal(out, used, found.number, found.place);
+pub fn voice(words: &mut Words<'_>, room: &mut Room, out: &mut Printed) -> Option<()> {
+    let body = words.bytes(room)?;
+    let group = words.number()?;
+    let channel = SourceChannel(words.byte()?);
+    words.end()?;
+    let found = find_voice(body, group, channel);
+    if out.answer(found.number, found.place) {
+        out.byte(b' ');
+        out.bytes(voice_name(body, group, channel));
     }
-    let accepted = put_ok(out, used);
-    let parted = put(out, accepted, b' ');
-    let told = put_bytes(out, parted, voice_name(body, group, SourceChannel(channel)));
-    put_end(out, told)
+    out.end();
+    Some(())
 }

@@ -2,55 +2,65 @@
 use casm::checking::{check_bodies, check_files};
 use layout::answer::{Checked, Which};
 use layout::record::SourceChannel;
-use script_text::print::{Printed, put_end, put_number, put_refused, put_text};
+use script_text::print::Printed;
+use script_words::bytes::Room;
+use script_words::word::Words;
 
-fn put_which(out: &mut Printed, used: usize, which: Which) -> usize {
+fn put_which(out: &mut Printed, which: Which) {
     match which {
-        Which::Neither => put_text(out, used, b" neither"),
-        Which::BeforeFile => put_text(out, used, b" beforefile"),
-        Which::AfterFile => put_text(out, used, b" afterfile"),
-        Which::BeforeBody => put_text(out, used, b" before"),
-        Which::AfterBody => put_text(out, used, b" after"),
+        Which::Neither => out.text(b" neither"),
+        Which::BeforeFile => out.text(b" beforefile"),
+        Which::AfterFile => out.text(b" afterfile"),
+        Which::BeforeBody => out.text(b" before"),
+        Which::AfterBody => out.text(b" after"),
     }
 }
 
-fn put_checked(out: &mut Printed, used: usize, checked: Checked) -> usize {
-    if checked.number != 0 {
-        let refused = put_refused(out, used, checked.number, checked.place);
-        let which = checked.which;
-        let named = put_which(out, refused, which);
-        return put_end(out, named);
+fn put_checked(out: &mut Printed, checked: Checked) {
+    if !out.answer(checked.number, checked.place) {
+        put_which(out, checked.which);
+    } else if checked.yes {
+        out.text(b" yes");
+    } else {
+        out.text(b" no");
+        out.number(checked.unlike);
     }
-    if checked.yes {
-        return put_text(out, used, b"ok yes\n");
-    }
-    let told = put_text(out, used, b"ok no");
-    let placed = put_number(out, told, checked.unlike);
-    put_end(out, placed)
+    out.end();
 }
 
-// `checked BEFORE AFTER G CHANNEL`
+// `checked BEFORE AFTER G CHANNEL`, and `checkedfile` with the same words: the call is the one that is handed over.
+fn check<F: Fn(&[u8], &[u8], usize, SourceChannel) -> Checked>(
+    words: &mut Words<'_>,
+    before: &mut Room,
+    after: &mut Room,
+    out: &mut Printed,
+    call: F,
+) -> Option<()>
+    requires { F.IsAlwaysCallable call }
+{
+    let before = words.bytes(before)?;
+    let after = words.bytes(after)?;
+    let group = words.number()?;
+    let source = SourceChannel(words.byte()?);
+    words.end()?;
+    put_checked(out, call(before, after, group, source));
+    Some(())
+}
+
 pub fn bodies(
-    before: &[u8],
-    after: &[u8],
-    group: usize,
-    source: u8,
+    words: &mut Words<'_>,
+    before: &mut Room,
+    after: &mut Room,
     out: &mut Printed,
-    used: usize,
-) -> usize {
-    let checked = check_bodies(before, after, group, SourceChannel(source));
-    put_checked(out, used, checked)
+) -> Option<()> {
+    check(words, before, after, out, check_bodies)
 }
 
-// `checkedfile BEFORE AFTER G CHANNEL`
 pub fn files(
-    before: &[u8],
-    after: &[u8],
-    group: usize,
-    source: u8,
+    words: &mut Words<'_>,
+    before: &mut Room,
+    after: &mut Room,
     out: &mut Printed,
-    used: usize,
-) -> usize {
-    let checked = check_files(before, after, group, SourceChannel(source));
-    put_checked(out, used, checked)
+) -> Option<()> {
+    check(words, before, after, out, check_files)
 }

@@ -5,48 +5,59 @@ use casm::read::{
 };
 use layout::edition::Edition;
 use layout::record::SourceChannel;
-use script_text::print::{Printed, put_told};
+use script_text::print::Printed;
+use script_words::bytes::Room;
+use script_words::word::Words;
 
 // `find BYTES`
-pub fn find(file: &[u8], out: &mut Printed, used: usize) -> usize {
+pub fn find(words: &mut Words<'_>, room: &mut Room, out: &mut Printed) -> Option<()> {
+    let file = words.bytes(room)?;
+    words.end()?;
     let found = find_casm(file);
-    put_told(
-        out,
-        used,
-        found.number,
-        found.place,
-        &[found.tag, found.length],
-    )
+    out.told(found.number, found.place, &[found.tag, found.length]);
+    Some(())
 }
 
 // `body BYTES`
-pub fn body(body: &[u8], out: &mut Printed, used: usize) -> usize {
+pub fn body(words: &mut Words<'_>, room: &mut Room, out: &mut Printed) -> Option<()> {
+    let body = words.bytes(room)?;
+    words.end()?;
     let read = read_body(body);
-    put_told(out, used, read.number, read.place, &[read.count])
+    out.told(read.number, read.place, &[read.count]);
+    Some(())
 }
 
 // `part BYTES NAME`
-pub fn part(body: &[u8], name: &[u8], out: &mut Printed, used: usize) -> usize {
+pub fn part(
+    words: &mut Words<'_>,
+    room: &mut Room,
+    name: &mut Room,
+    out: &mut Printed,
+) -> Option<()> {
+    let body = words.bytes(room)?;
+    let name = words.bytes(name)?;
+    words.end()?;
     let found = find_part(body, name);
-    put_told(out, used, found.number, found.place, &[found.group])
+    out.told(found.number, found.place, &[found.group]);
+    Some(())
 }
 
 // The number of a group's edition, 0 for a group without records, which suits either.
 fn edition_told(edition: Edition, records: usize) -> usize {
-    if records == 0 {
-        return 0;
-    }
     match edition {
+        _ if records == 0 => 0,
         Edition::First => 1,
         Edition::Second => 2,
     }
 }
 
 // `where BYTES G`: `where` is a word of the language.
-pub fn place(body: &[u8], group: usize, out: &mut Printed, used: usize) -> usize {
+pub fn place(words: &mut Words<'_>, room: &mut Room, out: &mut Printed) -> Option<()> {
+    let body = words.bytes(room)?;
+    let group = words.number()?;
+    words.end()?;
     let found = find_group(body, group);
     let stands = found.group;
-    let edition = stands.edition;
     let told = [
         stands.at,
         stands.size,
@@ -56,37 +67,52 @@ pub fn place(body: &[u8], group: usize, out: &mut Printed, used: usize) -> usize
         stands.records,
         stands.cntts,
         stands.seconds,
-        edition_told(edition, stands.records),
+        edition_told(stands.edition, stands.records),
     ];
-    put_told(out, used, found.number, found.place, &told)
+    out.told(found.number, found.place, &told);
+    Some(())
 }
 
 // `channel BYTES G CHANNEL`
-pub fn channel(body: &[u8], group: usize, source: u8, out: &mut Printed, used: usize) -> usize {
-    let found = find_channel(body, group, SourceChannel(source));
-    put_told(out, used, found.number, found.place, &[found.row, found.at])
+pub fn channel(words: &mut Words<'_>, room: &mut Room, out: &mut Printed) -> Option<()> {
+    let body = words.bytes(room)?;
+    let group = words.number()?;
+    let source = SourceChannel(words.byte()?);
+    words.end()?;
+    let found = find_channel(body, group, source);
+    out.told(found.number, found.place, &[found.row, found.at]);
+    Some(())
 }
 
 // `section BYTES AT`
-pub fn section(file: &[u8], tag: usize, out: &mut Printed, used: usize) -> usize {
+pub fn section(words: &mut Words<'_>, room: &mut Room, out: &mut Printed) -> Option<()> {
+    let file = words.bytes(room)?;
+    let tag = words.number()?;
+    words.end()?;
     let read = read_section(file, tag);
-    put_told(out, used, read.number, read.place, &[read.length])
+    out.told(read.number, read.place, &[read.length]);
+    Some(())
 }
 
 // `entry BYTES`
-pub fn entry(bytes: &[u8], out: &mut Printed, used: usize) -> usize {
+pub fn entry(words: &mut Words<'_>, room: &mut Room, out: &mut Printed) -> Option<()> {
+    let bytes = words.bytes(room)?;
+    words.end()?;
     let judged = judge_entry(bytes);
-    put_told(out, used, judged.number, judged.place, &[judged.length])
+    out.told(judged.number, judged.place, &[judged.length]);
+    Some(())
 }
 
 // `site BYTES PLACE`
-pub fn site(body: &[u8], place: usize, out: &mut Printed, used: usize) -> usize {
+pub fn site(words: &mut Words<'_>, room: &mut Room, out: &mut Printed) -> Option<()> {
+    let body = words.bytes(room)?;
+    let place = words.number()?;
+    words.end()?;
     let found = find_place(body, place);
-    put_told(
-        out,
-        used,
+    out.told(
         found.number,
         found.place,
         &[found.group, found.child, found.chunk],
-    )
+    );
+    Some(())
 }

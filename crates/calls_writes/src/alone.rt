@@ -1,26 +1,31 @@
 // The verbs on a record alone: where it places a note, and one field byte of it set.
 use casm::questions::place_note;
 use casm_by_value::set_with;
-use script_records::{put_record, record_from};
-use script_text::print::{Printed, put_answer, put_end, put_told};
+use script_records::{put_record, take_record};
+use script_text::print::Printed;
+use script_words::word::Words;
 
 // `place REC ROOT NOTE`
-pub fn place(rec: &[u8], root: u8, note: u8, out: &mut Printed, used: usize) -> usize {
-    let placed = place_note(record_from(rec), root, note);
-    put_told(
-        out,
-        used,
-        placed.number,
-        placed.place,
-        &[placed.note as usize],
-    )
+pub fn place(words: &mut Words<'_>, out: &mut Printed) -> Option<()> {
+    let rec = take_record(words)?;
+    let root = words.byte()?;
+    let note = words.byte()?;
+    words.end()?;
+    let placed = place_note(rec, root, note);
+    out.told(placed.number, placed.place, &[usize::from(placed.note)]);
+    Some(())
 }
 
 // `screen REC INDEX VALUE`
-pub fn screen(rec: &[u8], index: usize, value: u8, out: &mut Printed, used: usize) -> usize {
-    let changed = set_with(record_from(rec), index, value);
-    let answered = put_answer(out, used, changed.number, changed.place);
-    let held = changed.held;
-    let told = put_record(out, answered, held);
-    put_end(out, told)
+pub fn screen(words: &mut Words<'_>, out: &mut Printed) -> Option<()> {
+    let rec = take_record(words)?;
+    let index = words.number()?;
+    let value = words.byte()?;
+    words.end()?;
+    let changed = set_with(rec, index, value);
+    out.answer(changed.number, changed.place);
+    out.byte(b' ');
+    put_record(out, changed.held);
+    out.end();
+    Some(())
 }

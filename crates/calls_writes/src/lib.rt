@@ -1,6 +1,5 @@
-// The verbs of the bench `calls` that take, give or change records: each makes one call of the library and prints the answer.
+// The verbs of the bench `calls` that take, give or change one record: each takes its words, makes one call of the library and prints the answer.
 #![tactic(auto)]
 
-mod alone;
-mod edits;
-pub mod verbs;
+pub mod alone;
+pub mod edits;

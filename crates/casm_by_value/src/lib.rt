@@ -20,17 +20,14 @@ pub struct Filled {
 pub(crate) fn lent_of(room: usize) -> usize
     ensures { result ≡ min room 32 }
 {
-    if room < 32 { room } else { 32 }
+    room.min(32)
 }
 
 // The two side by side.
 fn both(table: [Record; 32], answer: Counted) -> Filled
     ensures { (result.table ≡ table) × (result.answer ≡ answer) }
 {
-    Filled {
-        table: table,
-        answer: answer,
-    }
+    Filled { table, answer }
 }
 
 // A group's records read into the first `room` records of a copy of a table; where `room` is above 32, all are lent.
@@ -50,7 +47,7 @@ fn changed_of(answer: Answered, held: Record) -> Changed
     Changed {
         number: answer.number,
         place: answer.place,
-        held: held,
+        held,
     }
 }
 

@@ -2,8 +2,8 @@
 -- stands for both editions in Rounds and Refusals; damage that stays local, with groups of both editions mixed, in Salvage.
 use Rattle.std.specs.Prelude.{ℕ, ◌<◌, ◌≤◌, ◌≡◌, List, get_or}
 use Rattle.layout.specs.declared.edition.Edition.{Edition}
-use Rattle.layout.specs.declared.turn.Run.TheVariants.{Ended}
-use Rattle.layout.specs.declared.turn.Judged.TheVariants.{Sound}
+use Rattle.layout.specs.Scan.{Ended}
+use Rattle.layout.specs.Group.{Sound}
 use Rattle.layout.specs.declared.record.Record.{Record}
 use Rattle.layout.specs.declared.record.Triple.{Triple}
 use Rattle.layout.specs.declared.record.Single.{Single}

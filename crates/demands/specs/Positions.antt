@@ -2,7 +2,7 @@
 -- read it." That accepted bytes are given back whatever the order, and that an allowed group is read back with its positions, stands in Rounds (`ReadThenWritten`, `WrittenThenRead`, `AcceptedExactly`, and at the calls).
 use Rattle.std.specs.Prelude.{ℕ, ◌≤◌, ◌≡◌, ◌↔◌, true, List, length, take}
 use Rattle.layout.specs.declared.edition.Edition.{Edition}
-use Rattle.layout.specs.declared.turn.Judged.TheVariants.{Sound}
+use Rattle.layout.specs.Group.{Sound}
 use Rattle.layout.specs.declared.lock.Override.{Override}
 use Rattle.layout.specs.declared.record.Record.{Record}
 use Rattle.layout.specs.declared.answer.Measured.{Measured}

@@ -5,7 +5,7 @@ use Rattle.layout.specs.declared.answer.Answered.{Answered}
 use Rattle.layout.specs.declared.answer.Changed.{Changed}
 use Rattle.layout.specs.declared.lock.Override.TheVariants.{NotAsked, Asked}
 use Rattle.layout.specs.declared.record.Record.{Record}
-use Rattle.layout.specs.declared.turn.Run.TheVariants.{Ended}
+use Rattle.layout.specs.Scan.{Ended}
 use Rattle.layout.specs.Answers.{refused}
 use Rattle.layout.specs.Refusals.{accepted, read_only}
 use Rattle.layout.specs.Editions.{held}

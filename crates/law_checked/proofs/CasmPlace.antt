@@ -5,12 +5,13 @@ use mathlib.Core.List.{List}
 use native.Mathlib.Omega.{arith}
 use lib.Dec.{ltb, leb}
 use lib.ListN.{length}
-use Rattle.layout.specs.declared.turn.Run.{Run}
-use Rattle.layout.specs.declared.turn.Run.TheVariants.{Stopped, Ended}
+use Rattle.layout.specs.Scan.{Run}
+use Rattle.layout.specs.Scan.{Stopped, Ended}
 use Rattle.layout.specs.Bytes.{word, CASM}
 use Rattle.layout.specs.Answers.{granted, after_run, Span}
 use Rattle.layout.specs.Style.{no_style, section_place, section_tagged, sections_run, section_at, casm_among, casm_found}
 use Rattle.law_rounds.proofs.Granted.{if_granted, granted_once}
+use Rattle.std.specs.Prelude.{Ok, Err}
 
 -- ---- where the CASM section stands
 
@@ -37,8 +38,8 @@ casm_at s x e =
     go (sections_run s) b.1
   where
     go : (r : Run) → after_run r (casm_among s) ≡ granted x → CasmAt s x
-    go (Stopped number place) q = absurd (let z : ◌≡◌ {A = ℕ} 0 1 = cc in omega arith)
-    go (Ended n) q = among_at s n x q
+    go (Err why) q = absurd (let z : ◌≡◌ {A = ℕ} 0 1 = cc in omega arith)
+    go (Ok n) q = among_at s n x q
 
 -- ---- places of sections rise
 

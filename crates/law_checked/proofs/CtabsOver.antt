@@ -9,8 +9,8 @@ use lib.Dec.{ltb, eqb}
 use lib.ListN.{length, get_or}
 use Rattle.layout.specs.Bytes.{word, tagged, Cntt}
 use Rattle.layout.specs.declared.edition.Edition.{Edition}
-use Rattle.layout.specs.declared.turn.Turn.TheVariants.{Refused, More, Done}
-use Rattle.layout.specs.declared.turn.Run.TheVariants.{Ended}
+use Rattle.layout.specs.Scan.{Refused, More, Done}
+use Rattle.layout.specs.Scan.{Ended}
 use Rattle.layout.specs.Editions.{tag_of, size}
 use Rattle.layout.specs.Ranges.{first_out}
 use Rattle.layout.specs.Group.{head_fault, ctabs_over, ctab_place, ctab_of, ctab_at, ctab_turn, ctabs_of}

@@ -5,7 +5,7 @@ use mathlib.Core.List.{List}
 use native.Mathlib.Omega.{arith}
 use native.Mathlib.Decide.{dec_lt}
 use lib.ListN.{length, get_or}
-use Rattle.layout.specs.declared.turn.Run.TheVariants.{Ended}
+use Rattle.layout.specs.Scan.{Ended}
 use Rattle.layout.specs.Editions.{size}
 use Rattle.layout.specs.Body.{group_place, body_run}
 use Rattle.layout.specs.Asked.{standing, row_of, row_in}

@@ -11,7 +11,7 @@ use lib.ListN.{length, get_or, drop}
 use lib.Seq.{drop-drop}
 use borrow.Author.Tests.{eqb-true, eqb-false}
 use Rattle.layout.specs.Bytes.{word}
-use Rattle.layout.specs.declared.turn.Run.TheVariants.{Ended}
+use Rattle.layout.specs.Scan.{Ended}
 use Rattle.layout.specs.Editions.{size}
 use Rattle.layout.specs.Records.{blank}
 use Rattle.layout.specs.Group.{ctab_place, payload, group_at, Group}

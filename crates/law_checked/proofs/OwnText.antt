@@ -7,7 +7,7 @@ use lib.ListN.{length, get_or, take, drop, length-take, length-drop}
 use lib.Seq.{get_or-take, get_or-drop, drop-drop, ext_get_or}
 use Rattle.layout.specs.Bytes.{word}
 use Rattle.layout.specs.declared.edition.Edition.{Edition}
-use Rattle.layout.specs.declared.turn.Judged.TheVariants.{Sound}
+use Rattle.layout.specs.Group.{Sound}
 use Rattle.layout.specs.Editions.{size}
 use Rattle.layout.specs.Group.{payload, group_size, group_at, Group, group_of}
 use Rattle.layout.specs.Body.{group_place, text_at, group_value, group_no}

@@ -7,8 +7,8 @@ use native.Mathlib.Decide.{dec_lt}
 use lib.ListN.{get_or, drop}
 use Rattle.layout.specs.declared.edition.Edition.{Edition}
 use Rattle.layout.specs.declared.answer.Standing.{Standing}
-use Rattle.layout.specs.declared.turn.Judged.{Judged}
-use Rattle.layout.specs.declared.turn.Judged.TheVariants.{Unsound, Sound}
+use Rattle.layout.specs.Group.{Judged}
+use Rattle.layout.specs.Group.{Unsound, Sound}
 use Rattle.layout.specs.Editions.{size}
 use Rattle.layout.specs.Group.{ctab_place, ctab_channel, ctab_of, group_at}
 use Rattle.layout.specs.Body.{group_place}
@@ -18,6 +18,7 @@ use Rattle.layout.proofs.Seen.{ctab_seen}
 use Rattle.layout.proofs.GroupSound.{group_sound_is}
 use Rattle.law_checked.proofs.SameBytes.{Clear, short_of, past}
 use Rattle.law_checked.proofs.SamePlaces.{place_suc, places_rise}
+use Rattle.std.specs.Prelude.{Ok, Err}
 
 -- record number i of group number g, of a source channel: `long` bytes at `at` of the body
 pub record RecordStands (s : List ℕ) (g channel at long i : ℕ) : Type 0 where
@@ -40,22 +41,22 @@ module _ (s : List ℕ) (g channel : ℕ) where
   judged : (j : Judged) → group_at (drop (group_place s g) s) ≡ j → row_in s (standing_at s (group_place s g) j) channel < (standing_at s (group_place s g) j).records
       → Stands (standing_at s (group_place s g) j)
   unfolding standing_at row_in group_place ctab_channel
-  judged (Unsound a b) e h = absurd (omega arith)
-  judged (Sound ed t n m) e h =
+  judged (Err why) e h = absurd (omega arith)
+  judged (Ok x) e h =
       let p = group_place s g in
-      let i = ctab_of ed s (p + 16 + t) n channel in
-      let is = group_sound_is (drop p s) ed t n m e in
+      let i = ctab_of x.edition s (p + 16 + x.text) x.ctabs channel in
+      let is = group_sound_is (drop p s) x.edition x.text x.ctabs x.cntts e in
       record {
-        edition = ed;
-        text = t;
-        ctabs = n;
-        cntts = m;
+        edition = x.edition;
+        text = x.text;
+        ctabs = x.ctabs;
+        cntts = x.cntts;
         sound = e;
         within = h;
         place = omega arith;
         sized = refl;
-        ends = omega (arith, is.size, place_before ed (p + 16 + t) i n h);
-        channelled = ctab_seen ed s (p + 16 + t) n channel h;
+        ends = omega (arith, is.size, place_before x.edition (p + 16 + x.text) i x.ctabs h);
+        channelled = ctab_seen x.edition s (p + 16 + x.text) x.ctabs channel h;
       }
 
   pub record_stands : row_in s (standing s g) channel < (standing s g).records

@@ -9,7 +9,7 @@ use lib.Dec.{eqb}
 use lib.ListN.{take, drop}
 use borrow.Author.Tests.{eqb-true, eqb-false, ne_eqb, le-ltb}
 use Rattle.layout.specs.declared.edition.Edition.{Edition}
-use Rattle.layout.specs.declared.record.SecondTable.TheVariants.{Absent}
+use Rattle.layout.specs.Records.{Absent}
 use Rattle.layout.specs.Editions.{size, held}
 use Rattle.layout.specs.Records.{edition_of, second_in, position_in}
 use Rattle.layout.specs.Group.{ctab_place, ctab_channel, cntt_channel, cntt_of, second_of, position_of, record_at}

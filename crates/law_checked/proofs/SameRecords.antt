@@ -8,7 +8,7 @@ use native.Mathlib.Decide.{dec_lt}
 use lib.Dec.{ltb, eqb}
 use lib.ListN.{get_or, take, drop}
 use Rattle.layout.specs.declared.edition.Edition.{Edition}
-use Rattle.layout.specs.declared.record.SecondTable.TheVariants.{Absent, Value}
+use Rattle.layout.specs.Records.{Absent, Value}
 use Rattle.layout.specs.Editions.{size, held}
 use Rattle.layout.specs.Group.{ctab_place, ctab_channel, cntt_channel, cntt_of, second_of, position_of, record_at}
 use Rattle.layout.proofs.Editions.{held_size, size_least}

@@ -8,7 +8,7 @@ use lib.ListN.{length}
 use Rattle.layout.specs.Bytes.{tagged, Cntt}
 use Rattle.layout.specs.declared.edition.Edition.{Edition}
 use Rattle.layout.specs.declared.edition.Edition.TheVariants.{Second}
-use Rattle.layout.specs.declared.turn.Judged.TheVariants.{Sound}
+use Rattle.layout.specs.Group.{Sound}
 use Rattle.layout.specs.Editions.{tag_of, size}
 use Rattle.layout.specs.Group.{ctab_place, edition_at}
 use Rattle.layout.proofs.Ctabs.{place_before}

@@ -6,10 +6,10 @@ use native.Mathlib.Omega.{arith}
 use native.Mathlib.Decide.{dec_lt}
 use lib.ListN.{length}
 use Rattle.layout.specs.Scan.{run_of, run}
-use Rattle.layout.specs.declared.turn.Turn.{Turn}
-use Rattle.layout.specs.declared.turn.Turn.TheVariants.{Refused, More, Done}
-use Rattle.layout.specs.declared.turn.Run.{Run}
-use Rattle.layout.specs.declared.turn.Run.TheVariants.{Stopped, Ended}
+use Rattle.layout.specs.Scan.{Turn}
+use Rattle.layout.specs.Scan.{Refused, More, Done}
+use Rattle.layout.specs.Scan.{Run}
+use Rattle.layout.specs.Scan.{Stopped, Ended}
 use Rattle.layout.specs.Bytes.{word, tag_at, tagged, MThd, MTrk, CASM}
 use Rattle.layout.specs.Answers.{after_run, Span}
 use Rattle.layout.specs.Style.{no_style, section_place, section_tagged, section_turn_at, section_turn, sections_run, casm_among, casm_found}
@@ -17,6 +17,8 @@ use Rattle.layout.proofs.Scans.{first_alike}
 use Rattle.law_checked.specs.Alike.{Outside, ahead, behind, AlikeOutside}
 use Rattle.law_checked.proofs.SameBytes.{SameBytes, same_word, same_tag, same_tagged}
 use Rattle.law_checked.proofs.CasmPlace.{CasmAt, place_up_to, track_first}
+use Rattle.layout.specs.declared.turn.Met.TheVariants.{Chunk, End}
+use Rattle.std.specs.Prelude.{Ok, Err}
 
 -- ---- a run goes as its turns
 
@@ -26,9 +28,9 @@ turns_alike p q f zero k = refl
 turns_alike p q f (suc n) k = go (q k) (f k) refl (turns_alike p q f n (suc k))
   where
     go : (t : Turn) → p k ≡ q k → q k ≡ t → run_of p (suc k) n ≡ run_of q (suc k) n → run_of p k (suc n) ≡ run_of q k (suc n)
-    go (Refused a b) g h more = rw (g, h, run_of)
-    go More g h more = rw (g, h, run_of) more
-    go Done g h more = rw (g, h, run_of)
+    go (Err why) g h more = rw (g, h, run_of)
+    go (Ok Chunk) g h more = rw (g, h, run_of) more
+    go (Ok End) g h more = rw (g, h, run_of)
 
 run_alike : (p q : ℕ → Turn) → ((i : ℕ) → p i ≡ q i) → (e : ℕ) → run p 0 e ≡ run q 0 e
 unfolding run
@@ -96,8 +98,8 @@ module _ (s t : List ℕ) (at n : ℕ) (alike : AlikeOutside s t at n) (x : Span
 
   after_alike : (r : Run) → after_run r (casm_among s) ≡ after_run r (casm_among t)
   unfolding after_run
-  after_alike (Stopped number place) = refl
-  after_alike (Ended m) = among m
+  after_alike (Err why) = refl
+  after_alike (Ok m) = among m
 
   pub casm_alike : casm_found s ≡ casm_found t
   unfolding casm_found

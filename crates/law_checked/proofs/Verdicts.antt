@@ -6,8 +6,8 @@ use mathlib.Core.List.{List}
 use native.Mathlib.Omega.{arith}
 use lib.Dec.{leb}
 use borrow.Author.Tests.{leb-true, leb-false, lt-leb}
-use Rattle.layout.specs.declared.turn.Run.{Run}
-use Rattle.layout.specs.declared.turn.Run.TheVariants.{Stopped, Ended}
+use Rattle.layout.specs.Scan.{Run}
+use Rattle.layout.specs.Scan.{Stopped, Ended}
 use Rattle.layout.specs.declared.answer.Which.{Which}
 use Rattle.layout.specs.declared.answer.Which.TheVariants.{BeforeBody, AfterBody}
 use Rattle.layout.specs.declared.answer.Standing.{Standing}
@@ -22,6 +22,7 @@ use Rattle.law_refusals.specs.After.{source_in}
 use Rattle.law_refusals.proofs.Told.{RunTold}
 use Rattle.law_refusals.proofs.Bodies.{body_told, has_groups}
 use Rattle.law_checked.specs.Refused.{BodiesRefused, before_body, after_body, no_group_given, no_channel_given}
+use Rattle.std.specs.Prelude.{Ok, Err}
 
 -- both bodies are read, and the before body has the group and in it the channel
 pub record BodiesRead (s t : List ℕ) (g channel : ℕ) : Type 0 where
@@ -65,10 +66,10 @@ module _ (a b : ℕ) (s t : List ℕ) (g channel : ℕ) (ask : Whereabouts → V
           → WayOut (unless BeforeBody a (after_run p (λ n. granted n)) (λ _.
           unless AfterBody b (after_run q (λ n. granted n)) (λ _.
           unless BeforeBody 0 (after_run p (λ n. cond (leb n g) (refused 16 0) (cond lacks (refused 15 0) (granted (row_before s g channel))))) ask)))
-      go (Stopped number place) q e f = denies BeforeBody number (a + place) refl (before_body number place (subst (RunTold (BodyRefused s)) e (body_told s)))
-      go (Ended n) (Stopped number place) e f =
-          denies AfterBody number (b + place) refl (after_body n number place (has_groups s n e) (subst (RunTold (BodyRefused t)) f (body_told t)))
-      go (Ended n) (Ended m) e f = found n m e f (leb n g) lacks refl refl
+      go (Err why) q e f = denies BeforeBody why.number (a + why.place) refl (before_body why.number why.place (subst (RunTold (BodyRefused s)) e (body_told s)))
+      go (Ok n) (Err why) e f =
+          denies AfterBody why.number (b + why.place) refl (after_body n why.number why.place (has_groups s n e) (subst (RunTold (BodyRefused t)) f (body_told t)))
+      go (Ok n) (Ok m) e f = found n m e f (leb n g) lacks refl refl
 
   -- a verdict that denies nothing is what was asked of the record
   pub not_denied : (v : Verdict) → ((which : Which) (number place : ℕ) → v ≡ Denied which number place → ⊥) → of_record_before a b s t g channel ask ≡ v

@@ -2,7 +2,7 @@
 use Rattle.std.specs.Prelude.{ℕ, ◌<◌, ◌≡◌, List, [], ◌∷◌, ◌++◌, length, get_or}
 use Rattle.layout.specs.declared.record.SourceChannel.{SourceChannel}
 use Rattle.layout.specs.declared.record.Record.{Record}
-use Rattle.layout.specs.declared.turn.Run.TheVariants.{Ended}
+use Rattle.layout.specs.Scan.{Ended}
 use Rattle.layout.specs.Answers.{Answer, refused, granted}
 use Rattle.layout.specs.Records.{blank, channel_of, edition_of, second_in, position_in}
 use Rattle.layout.specs.Body.{body_run, group_no}

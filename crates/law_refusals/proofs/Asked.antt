@@ -8,8 +8,7 @@ use lib.Dec.{ltb, leb, eqb}
 use lib.ListN.{length}
 use borrow.Author.Tests.{ltb-true, leb-true, leb-false, eqb-true, eqb-false, not-true, not-false}
 use Rattle.layout.specs.Lists.{has}
-use Rattle.layout.specs.declared.turn.Run.{Run}
-use Rattle.layout.specs.declared.turn.Run.TheVariants.{Stopped, Ended}
+use Rattle.layout.specs.Scan.{Run}
 use Rattle.layout.specs.declared.lock.Override.{Override}
 use Rattle.layout.specs.declared.record.Record.{Record}
 use Rattle.layout.specs.declared.answer.Standing.{Standing}
@@ -36,13 +35,14 @@ use Rattle.law_refusals.proofs.Told.{RunTold, AnswerTold, after_told}
 use Rattle.law_refusals.proofs.Heads.{first_such}
 use Rattle.layout.proofs.Seen.{ctab_seen, ctab_unseen}
 use Rattle.law_refusals.proofs.Bodies.{body_told, has_groups}
+use Rattle.std.specs.Prelude.{Ok, Err}
 
 -- ---- after the body
 
 -- the body's refusals are among those told
 run_as : (P : ℕ → ℕ → Type 0) (s : List ℕ) → ((number place : ℕ) → BodyRefused s number place → P number place) → (r : Run) → RunTold (BodyRefused s) r → RunTold P r
-run_as P s f (Stopped number place) h = f number place h
-run_as P s f (Ended n) h = tt
+run_as P s f (Err why) h = f why.number why.place h
+run_as P s f (Ok n) h = tt
 
 module _ {A : Type 0} (P : ℕ → ℕ → Type 0) (s : List ℕ) where
   asked_told : ((number place : ℕ) → BodyRefused s number place → P number place) → (ask : ℕ → Answer A) → ((n : ℕ) → HasGroups s n → AnswerTold P (ask n))

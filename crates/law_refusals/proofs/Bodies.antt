@@ -9,10 +9,9 @@ use lib.Dec.{ltb, leb, eqb}
 use lib.ListN.{length, drop}
 use borrow.Author.Tests.{ltb-true, ltb-false, leb-true, leb-false, eqb-true, eqb-false, not-true, not-false}
 use Rattle.layout.specs.declared.edition.Edition.{Edition}
-use Rattle.layout.specs.declared.turn.Turn.TheVariants.{More}
-use Rattle.layout.specs.declared.turn.Run.TheVariants.{Ended}
-use Rattle.layout.specs.declared.turn.Judged.{Judged}
-use Rattle.layout.specs.declared.turn.Judged.TheVariants.{Unsound, Sound}
+use Rattle.layout.specs.Scan.{More}
+use Rattle.layout.specs.Scan.{Ended}
+use Rattle.layout.specs.Group.{Judged}
 use Rattle.layout.specs.Bytes.{CSEG}
 use Rattle.layout.specs.Sdec.{shares}
 use Rattle.layout.specs.Group.{head_fault, group_at}
@@ -28,6 +27,7 @@ use Rattle.law_refusals.proofs.Heads.{head_told, headed}
 use Rattle.law_refusals.proofs.Groups.{group_told}
 use Rattle.law_refusals.proofs.Shared.{shared, unshared}
 use Rattle.law_refusals.proofs.Unlike.{fixes, unlike_told, like_told}
+use Rattle.std.specs.Prelude.{Ok, Err}
 
 -- ---- the groups before
 
@@ -91,17 +91,17 @@ module _ (s : List ℕ) where
   after_contents_lem : (k : ℕ) → GroupsBefore s k → k < 32 → Headed s (group_place s k) CSEG → (r : Judged) → group_at (drop (group_place s k) s) ≡ r → JudgedTold (GroupRefused (drop (group_place s k) s)) r
       → TurnTold (BodyRefused s) (after_contents s k (group_place s k) r)
   unfolding after_contents
-  after_contents_lem k before l head (Unsound number place) e h = group_refused k number place before l head h
-  after_contents_lem k before l head (Sound ed text n m) e h =
-      either (TurnTold (BodyRefused s)) (unlike_body s k ed n) _ _
+  after_contents_lem k before l head (Err why) e h = group_refused k why.number why.place before l head h
+  after_contents_lem k before l head (Ok x') e h =
+      either (TurnTold (BodyRefused s)) (unlike_body s k x'.edition x'.ctabs) _ _
       (λ u.
-      let x = unlike_told s k ed n u in
-      other_edition_given (fixing s k) k (edition_in (judged_no s (fixing s k))) ed before l x.1.0 (fixes s k x.1.0) (record { text = text; ctabs = n; cntts = m; sound = e; some = x.0 }) x.1.1) (λ u.
+      let x = unlike_told s k x'.edition x'.ctabs u in
+      other_edition_given (fixing s k) k (edition_in (judged_no s (fixing s k))) x'.edition before l x.1.0 (fixes s k x.1.0) (record { text = x'.text; ctabs = x'.ctabs; cntts = x'.cntts; sound = e; some = x.0 }) x.1.1) (λ u.
       either (TurnTold (BodyRefused s)) (ltb (sharing s k (group_place s k)) k) _ _
       (λ f.
       let i = ltb-true _ _ f in
       let name = shared (text_at s (group_place s (sharing s k (group_place s k)))) (text_at s (group_place s k)) (name_shared s k (group_place s k) i) in
-      name_again_given (sharing s k (group_place s k)) k name.0 before l (record { edition = ed; text = text; ctabs = n; cntts = m; sound = e }) (like_told s k before.alike ed text n m e u) i name.1.0 name.1.1)
+      name_again_given (sharing s k (group_place s k)) k name.0 before l (record { edition = x'.edition; text = x'.text; ctabs = x'.ctabs; cntts = x'.cntts; sound = e }) (like_told s k before.alike x'.edition x'.text x'.ctabs x'.cntts e u) i name.1.0 name.1.1)
       (λ f. tt))
 
   turn_told : length s ≤ 32768 → (k : ℕ) → Kept k → TurnTold (BodyRefused s) (group_turn s k)

@@ -9,9 +9,9 @@ use native.Mathlib.Decide.{dec_lt}
 use lib.ListN.{length, drop}
 use borrow.Author.Tests.{lt-ltb, le-ltb, le-leb, lt-leb, eq-eqb, ne_eqb}
 use Rattle.layout.specs.declared.edition.Edition.{Edition}
-use Rattle.layout.specs.declared.turn.Turn.TheVariants.{Refused, More, Done}
-use Rattle.layout.specs.declared.turn.Run.TheVariants.{Stopped, Ended}
-use Rattle.layout.specs.declared.turn.Judged.TheVariants.{Unsound}
+use Rattle.layout.specs.Scan.{Refused, More, Done}
+use Rattle.layout.specs.Scan.{Stopped, Ended}
+use Rattle.layout.specs.Group.{Unsound}
 use Rattle.layout.specs.Bytes.{CSEG}
 use Rattle.layout.specs.Sdec.{shares}
 use Rattle.layout.specs.Group.{head_fault, group_at}

@@ -8,7 +8,7 @@ use native.Mathlib.Decide.{dec_lt}
 use lib.Dec.{ltb, leb, eqb}
 use lib.ListN.{length, get_or}
 use borrow.Author.Tests.{ltb-true, ltb-false, leb-true, eqb-true, eqb-false, not-true, not-false}
-use Rattle.layout.specs.declared.turn.Turn.TheVariants.{More}
+use Rattle.layout.specs.Scan.{More}
 use Rattle.layout.specs.Bytes.{word, tag_at, Cntt}
 use Rattle.layout.specs.declared.edition.Edition.TheVariants.{First}
 use Rattle.layout.specs.Ranges.{out_of, cntt_value}

@@ -7,8 +7,8 @@ use native.Mathlib.Omega.{arith}
 use native.Mathlib.Decide.{dec_lt}
 use lib.ListN.{length, get_or}
 use borrow.Author.Tests.{lt-ltb, le-ltb, le-leb, lt-leb, ne_eqb}
-use Rattle.layout.specs.declared.turn.Turn.TheVariants.{Refused, More}
-use Rattle.layout.specs.declared.turn.Run.TheVariants.{Stopped}
+use Rattle.layout.specs.Scan.{Refused, More}
+use Rattle.layout.specs.Scan.{Stopped}
 use Rattle.layout.specs.Bytes.{word, Cntt}
 use Rattle.layout.specs.declared.edition.Edition.TheVariants.{First}
 use Rattle.layout.specs.Ranges.{out_of, cntt_value}

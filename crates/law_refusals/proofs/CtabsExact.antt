@@ -8,8 +8,8 @@ use native.Mathlib.Decide.{dec_lt}
 use lib.Dec.{eqb}
 use lib.ListN.{length, get_or}
 use borrow.Author.Tests.{lt-ltb, le-ltb, eq-eqb, ne_eqb}
-use Rattle.layout.specs.declared.turn.Turn.TheVariants.{Refused, More, Done}
-use Rattle.layout.specs.declared.turn.Run.TheVariants.{Stopped, Ended}
+use Rattle.layout.specs.Scan.{Refused, More, Done}
+use Rattle.layout.specs.Scan.{Stopped, Ended}
 use Rattle.layout.specs.Bytes.{word, tag_at, Cntt}
 use Rattle.layout.specs.declared.edition.Edition.{Edition}
 use Rattle.layout.specs.declared.edition.Edition.TheVariants.{First, Second}

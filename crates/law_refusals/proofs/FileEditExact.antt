@@ -6,8 +6,8 @@ use mathlib.Core.List.{List}
 use native.Mathlib.Omega.{arith}
 use lib.Dec.{leb}
 use borrow.Author.Tests.{lt-leb, leb-false}
-use Rattle.layout.specs.declared.turn.Run.{Run}
-use Rattle.layout.specs.declared.turn.Run.TheVariants.{Stopped, Ended}
+use Rattle.layout.specs.Scan.{Run}
+use Rattle.layout.specs.Scan.{Ended}
 use Rattle.layout.specs.declared.answer.Answered.{Answered}
 use Rattle.layout.specs.declared.lock.Override.{Override}
 use Rattle.layout.specs.declared.record.Record.{Record}
@@ -36,6 +36,7 @@ use Rattle.law_refusals.proofs.BodyExact.{body_ended}
 use Rattle.law_refusals.proofs.AskedExact.{body_read_answers, part_answers, edit_answers}
 use Rattle.law_refusals.proofs.Given.{given}
 use Rattle.law_refusals.proofs.Kept.{none_given}
+use Rattle.std.specs.Prelude.{Ok, Err}
 
 -- a place counted from the start
 from_start : (place : ℕ) → 0 + place ≡ place
@@ -78,8 +79,8 @@ module _ (s name : List ℕ) where
           (record { count = n; groups = has_groups s n f; there = rw y at l }, rw y at (named_there n l))
 
       go : (r : Run) → body_run s ≡ r → after_run r (λ n. cond (leb n (group_named s n name)) (refused 15 0) (granted (group_named s n name))) ≡ granted g → HasGroup s g × Named s g name
-      go (Stopped number place) f q = absurd (let z : ◌≡◌ {A = ℕ} 0 1 = cc in omega arith)
-      go (Ended n) f q = two n f (leb n (group_named s n name)) refl q
+      go (Err why) f q = absurd (let z : ◌≡◌ {A = ℕ} 0 1 = cc in omega arith)
+      go (Ok n) f q = two n f (leb n (group_named s n name)) refl q
 
   -- no two groups of an accepted body have a name in common
   named_once : (g : ℕ) (h : HasGroup s g) → Named s g name → group_named s h.count name ≡ g

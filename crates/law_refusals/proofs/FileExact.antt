@@ -7,7 +7,7 @@ use native.Mathlib.Omega.{arith}
 use native.Mathlib.Decide.{dec_lt}
 use lib.ListN.{length}
 use borrow.Author.Tests.{lt-ltb, le-ltb, le-leb, lt-leb, eq-eqb, ne_eqb}
-use Rattle.layout.specs.declared.turn.Turn.TheVariants.{Refused, More, Done}
+use Rattle.layout.specs.Scan.{Refused, More, Done}
 use Rattle.layout.specs.Bytes.{word, tag_at, CASM}
 use Rattle.layout.specs.Answers.{refused, after_run}
 use Rattle.layout.specs.Style.{no_style, section_place, section_tagged, section_turn_at, section_turn, sections_run, casm_among, casm_found}

@@ -7,9 +7,9 @@ use lib.ListN.{length, take, drop}
 use borrow.Author.Tests.{ne_eqb}
 use Rattle.layout.specs.declared.edition.Edition.{Edition}
 use Rattle.layout.specs.declared.edition.Edition.TheVariants.{First, Second}
-use Rattle.layout.specs.declared.turn.Turn.TheVariants.{Refused}
-use Rattle.layout.specs.declared.turn.Run.TheVariants.{Stopped, Ended}
-use Rattle.layout.specs.declared.turn.Judged.TheVariants.{Unsound}
+use Rattle.layout.specs.Scan.{Refused}
+use Rattle.layout.specs.Scan.{Stopped, Ended}
+use Rattle.layout.specs.Group.{Unsound}
 use Rattle.layout.specs.Bytes.{word, tag_at, CSEG, Sdec, Cntt}
 use Rattle.layout.specs.Group.{ctab_turn, ctabs_of, cntts_of, after_ctabs, contents, payload, behind_header, group_at}
 use Rattle.layout.proofs.Groups.{behind_halted, behind_some}

@@ -9,10 +9,9 @@ use native.Mathlib.Omega.{arith}
 use borrow.Author.Tests.{eqb-true, eqb-false, not-true, not-false}
 use Rattle.layout.specs.declared.edition.Edition.{Edition}
 use Rattle.layout.specs.declared.edition.Edition.TheVariants.{First, Second}
-use Rattle.layout.specs.declared.turn.Run.{Run}
-use Rattle.layout.specs.declared.turn.Run.TheVariants.{Stopped, Ended}
-use Rattle.layout.specs.declared.turn.Judged.{Judged}
-use Rattle.layout.specs.declared.turn.Judged.TheVariants.{Unsound, Sound}
+use Rattle.layout.specs.Scan.{Run}
+use Rattle.layout.specs.Scan.{Ended}
+use Rattle.layout.specs.Group.{Judged}
 use Rattle.layout.specs.Bytes.{word, CSEG, Sdec}
 use Rattle.layout.specs.Sdec.{sound_text}
 use Rattle.layout.specs.Group.{head_fault, ctab_place, ctabs_of, cntts_of, after_ctb2s, after_ctabs, after_cntts, edition_at, contents, payload, behind_header, group_at}
@@ -25,12 +24,13 @@ use Rattle.law_refusals.proofs.Heads.{head_told, headed}
 use Rattle.law_refusals.proofs.Texts.{text_told}
 use Rattle.law_refusals.proofs.Ctabs.{ctabs_told, ctabs_end}
 use Rattle.law_refusals.proofs.Cntts.{cntts_told}
+use Rattle.std.specs.Prelude.{Ok, Err}
 
 module _ (c : List ℕ) where
   cntts_judged : (text n : ℕ) (r : Run) → RunTold (ContentsRefused c) r → JudgedTold (ContentsRefused c) (after_cntts First text n r)
   unfolding after_cntts
-  cntts_judged text n (Stopped number place) h = h
-  cntts_judged text n (Ended m) h = tt
+  cntts_judged text n (Err why) h = h
+  cntts_judged text n (Ok m) h = tt
 
   module _ (sdec : Headed c 0 Sdec) (text : sound_text (take (word c 4) (drop 8 c)) ≡ true) where
     -- what stands behind n Ctabs: Cntts, or behind Ctb2s nothing, since a Cntt there is refused
@@ -49,8 +49,8 @@ module _ (c : List ℕ) where
     ctabs_judged : (ed : Edition) → OfEdition c ed → (r : Run) → ctabs_of ed c (8 + word c 4) ≡ r → RunTold (CtabRefused ed c) r
         → JudgedTold (ContentsRefused c) (after_ctabs ed c (word c 4) r)
     unfolding after_ctabs
-    ctabs_judged ed own (Stopped number place) e h = of_ctab ed number place own h
-    ctabs_judged ed own (Ended n) e h = ended_judged ed own n e
+    ctabs_judged ed own (Err why) e h = of_ctab ed why.number why.place own h
+    ctabs_judged ed own (Ok n) e h = ended_judged ed own n e
 
   pub contents_told : JudgedTold (ContentsRefused c) (contents c)
   unfolding contents
@@ -64,8 +64,8 @@ module _ (c : List ℕ) where
 module _ (p : List ℕ) where
   behind_told : Headed p 0 CSEG → (word p 4 ≡ 0 → ⊥) → (r : Judged) → JudgedTold (ContentsRefused (payload p)) r → JudgedTold (GroupRefused p) (behind_header r)
   unfolding behind_header
-  behind_told h some (Unsound number place) t = group_contents number place h some t
-  behind_told h some (Sound ed text n m) t = tt
+  behind_told h some (Err why) t = group_contents why.number why.place h some t
+  behind_told h some (Ok x) t = tt
 
   pub group_told : JudgedTold (GroupRefused p) (group_at p)
   unfolding group_at

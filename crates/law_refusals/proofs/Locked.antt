@@ -1,7 +1,7 @@
 -- Read only: the edit and the screen beside those of before document 02, §6.
 use Prim.Native.Nat.{ℕ, ◌<◌}
 use mathlib.Core.Path.{◌≡◌, refl, sym, ap, subst, ◌∙◌}
-use mathlib.Core.Logic.{◌⊎◌, inl, inr, ◌↔◌}
+use mathlib.Core.Logic.{inl, inr, ◌↔◌}
 use mathlib.Core.Bool.{Bool, true, false, cond, not, ◌&&◌, true≢false}
 use mathlib.Core.List.{List}
 use native.Mathlib.Omega.{arith}
@@ -10,16 +10,14 @@ use borrow.Author.Tests.{eq-eqb, ne_eqb, eqb-true, eqb-false, lt-leb, leb-false,
 use Rattle.layout.proofs.Editions.{alike_is}
 use Rattle.law_refusals.proofs.Reached.{alike_so}
 use Rattle.layout.specs.declared.answer.Standing.{Standing}
-use Rattle.layout.specs.declared.lock.Override.{Override}
 use Rattle.layout.specs.declared.lock.Override.TheVariants.{NotAsked, Asked}
 use Rattle.layout.specs.declared.record.Record.{Record}
-use Rattle.layout.specs.declared.turn.Run.{Run}
-use Rattle.layout.specs.declared.turn.Run.TheVariants.{Stopped, Ended}
+use Rattle.layout.specs.Scan.{Run}
+use Rattle.layout.specs.Scan.{Ended}
 use Rattle.layout.specs.Answers.{Answer, refused, granted, number_of, after_run}
 use Rattle.layout.specs.Editions.{held, alike}
 use Rattle.layout.specs.Lock.{locks, keeps}
-use Rattle.layout.specs.Ranges.{out_of, rule_at}
-use Rattle.layout.specs.Records.{bytes_of, channel_of, edition_of, file_bytes}
+use Rattle.layout.specs.Records.{channel_of, edition_of, file_bytes}
 use Rattle.layout.specs.Body.{body_run}
 use Rattle.layout.specs.Asked.{Whereabouts, standing, row_of, row_in, of_group, of_channel}
 use Rattle.layout.specs.Group.{ctab_of}
@@ -35,13 +33,14 @@ use Rattle.law_refusals.proofs.Asked.{edit_asked}
 use Rattle.law_refusals.proofs.Records.{field_told}
 use Rattle.law_refusals.proofs.AskedExact.{channel_so}
 use Rattle.law_refusals.proofs.Bodies.{has_groups}
+use Rattle.std.specs.Prelude.{Ok, Err}
 
 -- ---- two questions of one record answer alike where they answer alike of the record that is there
 
 after_same : {A : Type 0} (r : Run) (f h : ℕ → Answer A) → ((n : ℕ) → r ≡ Ended n → f n ≡ h n) → after_run r f ≡ after_run r h
 unfolding after_run
-after_same (Stopped number place) f h same = refl
-after_same (Ended n) f h same = same n refl
+after_same (Err why) f h same = refl
+after_same (Ok n) f h same = same n refl
 
 cond_same : {A : Type 0} (b : Bool) (t u v : A) → (b ≡ false → u ≡ v) → cond b t u ≡ cond b t v
 cond_same true t u v same = refl

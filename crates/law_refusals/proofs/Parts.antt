@@ -4,8 +4,7 @@ use mathlib.Core.Path.{◌≡◌, refl, ap, ◌∙◌}
 use mathlib.Core.Bool.{Bool, true, false, cond}
 use mathlib.Core.List.{List, []}
 use lib.Dec.{leb}
-use Rattle.layout.specs.declared.turn.Run.{Run}
-use Rattle.layout.specs.declared.turn.Run.TheVariants.{Stopped, Ended}
+use Rattle.layout.specs.Scan.{Run}
 use Rattle.layout.specs.declared.answer.Grouped.{Grouped}
 use Rattle.layout.specs.declared.answer.Spanned.{Spanned}
 use Rattle.layout.specs.declared.answer.Standing.{Standing}
@@ -15,6 +14,7 @@ use Rattle.layout.specs.Asked.{standing, of_group, group_found, Whereabouts, row
 use Rattle.layout.specs.Voice.{trimmed, voice_bytes, voice_name, voice_span_at, voice_span}
 use Rattle.layout.specs.Promises.{GroupFound, TextShown, VoiceShown, VoiceFound}
 use Rattle.law_refusals.proofs.Kept.{none_given}
+use Rattle.std.specs.Prelude.{Ok, Err}
 
 -- two answers with one number, whichever it is
 module _ {A B : Type 0} where
@@ -28,8 +28,8 @@ module _ {A B : Type 0} where
 
   after_alike : (r : Run) (f : ℕ → Answer A) (g : ℕ → Answer B) → ((n : ℕ) → Alike (f n) (g n)) → Alike (after_run r f) (after_run r g)
   unfolding number_of after_run
-  after_alike (Stopped number place) f g h = refl
-  after_alike (Ended n) f g h = h n
+  after_alike (Err why) f g h = refl
+  after_alike (Ok n) f g h = h n
 
   group_alike : (s : List ℕ) (g : ℕ) (a : Answer A) (b : Answer B) → Alike a b → Alike (of_group s g a) (of_group s g b)
   unfolding of_group

@@ -1,19 +1,18 @@
 -- A record with no bad byte places a note by the set that the note uses and its effective table, and by nothing else from byte 20 on.
 use Prim.Native.Nat.{ℕ, ◌<◌}
-use mathlib.Core.Path.{◌≡◌, refl, sym, ap, ◌∙◌}
+use mathlib.Core.Path.{◌≡◌, refl, sym, ◌∙◌}
 use mathlib.Core.Bool.{cond, ◌||◌}
 use native.Mathlib.Omega.{arith}
 use lib.Dec.{leb}
 use lib.IntN.{pos, ◌+ℤ◌}
 use borrow.Author.Tests.{le-ltb}
 use Rattle.layout.specs.declared.record.Record.{Record}
-use Rattle.layout.specs.declared.record.Form.{Form}
 use Rattle.layout.specs.declared.record.Form.TheVariants.{One, Three}
 use Rattle.layout.specs.declared.record.Single.{Single}
 use Rattle.layout.specs.declared.record.Triple.{Triple}
 use Rattle.layout.specs.Answers.{Answer, refused, granted}
 use Rattle.layout.specs.Editions.{held}
-use Rattle.layout.specs.Records.{edition_of, first_bad}
+use Rattle.layout.specs.Records.{edition_of}
 use Rattle.layout.specs.Place.{effective, set_for, table_for, shift, fixed, heard, note_placed}
 use Rattle.law_refusals.specs.Records.{InRange, rule_two}
 use Rattle.law_refusals.proofs.RecordsExact.{bad_none, place_answers}

@@ -7,8 +7,8 @@ use native.Mathlib.Omega.{arith}
 use lib.Dec.{leb}
 use borrow.Author.Tests.{leb-false}
 use Rattle.layout.specs.Lists.{has}
-use Rattle.layout.specs.declared.turn.Run.{Run}
-use Rattle.layout.specs.declared.turn.Run.TheVariants.{Stopped, Ended}
+use Rattle.layout.specs.Scan.{Run}
+use Rattle.layout.specs.Scan.{Ended}
 use Rattle.layout.specs.declared.record.SourceChannel.{SourceChannel}
 use Rattle.layout.specs.Answers.{Answer, refused, granted, number_of, after_run}
 use Rattle.layout.specs.Sdec.{names}
@@ -22,6 +22,7 @@ use Rattle.law_refusals.specs.After.{HasGroup}
 use Rattle.law_refusals.proofs.Told.{RunTold}
 use Rattle.law_refusals.proofs.Above.{body_above}
 use Rattle.law_refusals.proofs.Bodies.{body_told, has_groups}
+use Rattle.std.specs.Prelude.{Ok, Err}
 
 -- the group that has the part, and who plays in it
 pub record PlayersFound (s name : List ℕ) (root type : ℕ) (a : Answer (List SourceChannel)) : Type 0 where
@@ -51,6 +52,6 @@ module _ (s name : List ℕ) (root type : ℕ) where
 
       go : (r : Run) → body_run s ≡ r → RunTold (BodyRefused s) r
           → Found (after_run r (λ n. cond (leb 12 root || leb 34 type) (refused 16 0) (of_part s name n (λ g. granted (playing (group_no s g) root type)))))
-      go (Stopped number place) e h = λ z. absurd (omega (arith, body_above s number place h))
-      go (Ended n) e h =
+      go (Err why) e h = λ z. absurd (omega (arith, body_above s why.number why.place h))
+      go (Ok n) e h =
           either Found (leb 12 root || leb 34 type) (refused 16 0) (of_part s name n (λ g. granted (playing (group_no s g) root type))) (λ f z. absurd (omega arith)) (λ f. among n e)

@@ -7,24 +7,25 @@ use native.Mathlib.Omega.{arith}
 use lib.ListN.{length, get_or}
 use borrow.Author.Tests.{le-ltb, ltb-false}
 use Rattle.layout.specs.Scan.{first}
-use Rattle.layout.specs.declared.record.SecondTable.{SecondTable}
-use Rattle.layout.specs.declared.record.SecondTable.TheVariants.{Absent, Value}
+use Rattle.layout.specs.Records.{SecondTable}
+use Rattle.layout.specs.Records.{Absent, Value}
 use Rattle.layout.specs.declared.record.Record.{Record}
 use Rattle.layout.specs.Records.{blank, second_in}
 use Rattle.layout.specs.Write.{cntt_count, at_position, wrong_position, wrong_positions}
 use Rattle.layout.proofs.Scans.{first_passed, first_none}
 use Rattle.layout.proofs.Positions.{Positions, positions_right, right_positions, position_taken, placed_is}
 use Rattle.law_refusals.specs.Records.{PositionsRight}
+use Rattle.std.specs.Prelude.{None, Some}
 
 absent_is : (o : SecondTable) → cntt_count o ≡ 0 → o ≡ Absent
 unfolding cntt_count
-absent_is Absent e = refl
-absent_is (Value v) e = absurd (omega arith)
+absent_is None e = refl
+absent_is (Some v) e = absurd (omega arith)
 
 value_is : (o : SecondTable) → cntt_count o ≡ 1 → (v : ℕ) × (o ≡ Value v)
 unfolding cntt_count
-value_is Absent e = absurd (omega arith)
-value_is (Value v) e = (v, refl)
+value_is None e = absurd (omega arith)
+value_is (Some v) e = (v, refl)
 
 absent_none : (o : SecondTable) → o ≡ Absent → cntt_count o ≡ 0
 unfolding cntt_count

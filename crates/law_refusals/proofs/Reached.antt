@@ -8,9 +8,9 @@ use native.Mathlib.Numerals.{add-one}
 use Rattle.layout.specs.Scan.{first, run}
 use Rattle.layout.specs.declared.edition.Edition.{Edition}
 use Rattle.layout.specs.Editions.{alike}
-use Rattle.layout.specs.declared.turn.Turn.{Turn}
-use Rattle.layout.specs.declared.turn.Turn.TheVariants.{Refused, More, Done}
-use Rattle.layout.specs.declared.turn.Run.TheVariants.{Stopped, Ended}
+use Rattle.layout.specs.Scan.{Turn}
+use Rattle.layout.specs.Scan.{Refused, More, Done}
+use Rattle.layout.specs.Scan.{Stopped, Ended}
 use Rattle.layout.specs.Bytes.{tag_at, tagged}
 use Rattle.layout.specs.Group.{head_fault}
 use Rattle.layout.proofs.Scans.{first_is}

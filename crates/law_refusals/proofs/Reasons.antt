@@ -1,13 +1,13 @@
 -- The kind of each entry of a salvage list is the refusal of its bytes: another kind than 0 is one, and no other is. Proved of each part, and so of each entry.
 use Prim.Native.Nat.{ℕ}
 use native.Mathlib.Omega.{arith}
-use mathlib.Core.Path.{◌≡◌, refl}
+use mathlib.Core.Path.{◌≡◌, refl, sym, ◌∙◌}
 use mathlib.Core.List.{List, [], ◌∷◌, append-nil, flat_map}
 use lib.ListN.{take, drop}
 use Rattle.layout.specs.declared.edition.Edition.{Edition}
 use Rattle.layout.specs.Lists.{All}
-use Rattle.layout.specs.declared.turn.Judged.{Judged}
-use Rattle.layout.specs.declared.turn.Judged.TheVariants.{Unsound, Sound}
+use Rattle.layout.specs.Group.{Judged}
+use Rattle.layout.specs.Group.{Unsound, Sound}
 use Rattle.layout.specs.Refusals.{bad_tag}
 use Rattle.layout.specs.Group.{group_size, group_at}
 use Rattle.layout.specs.Salvage.{front, pieces, Part, rest, listed, judged, parts, Entry, salvage}
@@ -26,6 +26,8 @@ use Rattle.law_refusals.proofs.Told.{JudgedTold}
 use Rattle.law_refusals.proofs.Groups.{group_told}
 use Rattle.law_refusals.proofs.GroupExact.{group_answers}
 use Rattle.law_refusals.proofs.Sound.{stands_not_refused}
+use Rattle.std.specs.Prelude.{Ok, Err}
+use Rattle.layout.proofs.Refused.{one_number}
 
 -- ---- the one kind that bytes can be refused with
 
@@ -36,7 +38,7 @@ free_kind s f _ (other_bytes g) = refl
 
 -- a piece whose group is refused
 piece_kind : (p : List ℕ) → Piece p → (number place : ℕ) → group_at p ≡ Unsound number place → (other : ℕ) → EntryRefused p other → number ≡ other
-piece_kind p c number place e _ (piece_refused other at _ r) = let f = group_answers p other at r in cc
+piece_kind p c number place e _ (piece_refused other at _ r) = one_number (sym e ∙ group_answers p other at r)
 piece_kind p c number place e _ (other_bytes f) = absurd (no_true (f 0) c.first)
 
 -- a sound group: none
@@ -60,12 +62,12 @@ rest_reasons (b ∷ s) f = (record { only = λ z. other_bytes f; always = free_k
 
 listed_reasons : (p : List ℕ) → Piece p → (v : Judged) → group_at p ≡ v → JudgedTold (GroupRefused p) v → AllReasons (listed p v)
 unfolding listed
-listed_reasons p c (Sound ed t n m) e h =
-    let own : group_at (take (group_size p) p) ≡ Sound ed t n m = rw append-nil at (sound_own p [] ed t n m e) in (
-      record { only = λ z. absurd (z refl); always = group_kind (take (group_size p) p) ed t n m own },
-      rest_reasons (drop (group_size p) p) (dropped_free p c (group_size p) (omega (arith, size_some p ed t n m e))),
+listed_reasons p c (Ok x) e h =
+    let own : group_at (take (group_size p) p) ≡ Sound x.edition x.text x.ctabs x.cntts = rw append-nil at (sound_own p [] x.edition x.text x.ctabs x.cntts e) in (
+      record { only = λ z. absurd (z refl); always = group_kind (take (group_size p) p) x.edition x.text x.ctabs x.cntts own },
+      rest_reasons (drop (group_size p) p) (dropped_free p c (group_size p) (omega (arith, size_some p x.edition x.text x.ctabs x.cntts e))),
     )
-listed_reasons p c (Unsound number place) e h = (record { only = λ z. piece_refused number place c h; always = piece_kind p c number place e }, tt)
+listed_reasons p c (Err why) e h = (record { only = λ z. piece_refused why.number why.place c h; always = piece_kind p c why.number why.place e }, tt)
 
 judged_reasons : (p : List ℕ) → Piece p → AllReasons (judged p)
 unfolding judged

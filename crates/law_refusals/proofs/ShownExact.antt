@@ -1,7 +1,7 @@
 -- What is shown of a file: each refusal is given under its condition, and wherever that holds; the other fields are then 0.
 use Prim.Native.Nat.{ℕ, ◌+◌, ◌<◌, ◌≤◌}
-use mathlib.Core.Path.{◌≡◌, refl, ap, ◌∙◌}
-use mathlib.Core.Bool.{Bool, true, false, cond}
+use mathlib.Core.Path.{◌≡◌, ap, ◌∙◌}
+use mathlib.Core.Bool.{true}
 use mathlib.Core.List.{List}
 use native.Mathlib.Omega.{arith}
 use lib.Dec.{ltb, leb}
@@ -9,14 +9,13 @@ use lib.ListN.{length}
 use borrow.Author.Tests.{ltb-true, ltb-false, leb-true, lt-ltb, le-ltb, le-leb}
 use Rattle.layout.specs.declared.answer.Measured.{Measured}
 use Rattle.layout.specs.declared.answer.Sited.{Sited}
-use Rattle.layout.specs.declared.turn.Judged.{Judged}
-use Rattle.layout.specs.declared.turn.Judged.TheVariants.{Unsound, Sound}
+use Rattle.layout.specs.Group.{Judged}
 use Rattle.layout.specs.Bytes.{word}
-use Rattle.layout.specs.Answers.{Answer, refused, granted, sized}
+use Rattle.layout.specs.Answers.{refused, sized}
 use Rattle.layout.specs.Group.{group_at}
 use Rattle.layout.specs.Style.{section_read}
 use Rattle.layout.specs.Salvage.{cseg, piece_judged, entry_judged}
-use Rattle.layout.specs.Chunks.{Site, no_site, site_of, site_no, chunk_of, sited}
+use Rattle.layout.specs.Chunks.{Site, no_site, site_of, sited}
 use Rattle.layout.specs.Promises.{SectionRead, EntryJudged, PlaceFound}
 use Rattle.layout.proofs.Choices.{either}
 use Rattle.law_refusals.specs.Given.{GivenUnder}
@@ -28,6 +27,7 @@ use Rattle.law_refusals.proofs.Groups.{group_told}
 use Rattle.law_refusals.proofs.GroupExact.{group_answers}
 use Rattle.law_refusals.proofs.Given.{given}
 use Rattle.law_refusals.proofs.Kept.{none_given}
+use Rattle.std.specs.Prelude.{Ok, Err}
 
 -- ---- a section by its place
 
@@ -66,8 +66,8 @@ module _ (p : List ℕ) where
 
   piece_told : length p ≤ 32768 → cseg p ≡ true → (j : Judged) → JudgedTold (GroupRefused p) j → AnswerTold (EntryAsked p) (piece_judged p j)
   unfolding piece_judged
-  piece_told h e (Unsound number place) r = entry_group number place h e r
-  piece_told h e (Sound ed t n m) r = tt
+  piece_told h e (Err why) r = entry_group why.number why.place h e r
+  piece_told h e (Ok x) r = tt
 
   entry_told : AnswerTold (EntryAsked p) (entry_judged p)
   unfolding entry_judged

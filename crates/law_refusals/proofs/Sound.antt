@@ -5,8 +5,7 @@ use mathlib.Core.Path.{◌≡◌, refl, sym, ◌∙◌}
 use mathlib.Core.Logic.{◌↔◌}
 use mathlib.Core.Bool.{Bool, true, false, true≢false}
 use mathlib.Core.List.{List}
-use Rattle.layout.specs.declared.turn.Judged.{Judged}
-use Rattle.layout.specs.declared.turn.Judged.TheVariants.{Unsound, Sound}
+use Rattle.layout.specs.Group.{Judged}
 use Rattle.layout.specs.Sdec.{sound_text}
 use Rattle.layout.specs.Group.{group_at}
 use Rattle.law_refusals.specs.Text.{TextBroken}
@@ -16,6 +15,7 @@ use Rattle.law_refusals.proofs.Texts.{text_told}
 use Rattle.law_refusals.proofs.TextExact.{text_not}
 use Rattle.law_refusals.proofs.Groups.{group_told}
 use Rattle.law_refusals.proofs.GroupExact.{group_answers}
+use Rattle.std.specs.Prelude.{Ok, Err}
 
 -- a text
 pub text_sound : (t : List ℕ) → (sound_text t ≡ true) ↔ (TextBroken t → ⊥)
@@ -38,5 +38,5 @@ pub group_stands : (p : List ℕ) → GroupStands p ↔ ((number place : ℕ) �
 group_stands p = (stands_not_refused p, λ h. go (group_at p) refl (group_told p) h)
   where
     go : (v : Judged) → group_at p ≡ v → JudgedTold (GroupRefused p) v → ((number place : ℕ) → GroupRefused p number place → ⊥) → GroupStands p
-    go (Unsound number place) e r h = absurd (h number place r)
-    go (Sound ed t n m) e r h = record { edition = ed; text = t; ctabs = n; cntts = m; sound = e }
+    go (Err why) e r h = absurd (h why.number why.place r)
+    go (Ok x) e r h = record { edition = x.edition; text = x.text; ctabs = x.ctabs; cntts = x.cntts; sound = e }

@@ -6,32 +6,33 @@ use mathlib.Core.List.{List}
 use native.Mathlib.Omega.{arith}
 use native.Mathlib.Numerals.{add-one}
 use Rattle.layout.specs.Scan.{run_of, run}
-use Rattle.layout.specs.declared.turn.Turn.{Turn}
-use Rattle.layout.specs.declared.turn.Turn.TheVariants.{Refused, More, Done}
-use Rattle.layout.specs.declared.turn.Run.{Run}
-use Rattle.layout.specs.declared.turn.Run.TheVariants.{Stopped, Ended}
-use Rattle.layout.specs.declared.turn.Judged.{Judged}
-use Rattle.layout.specs.declared.turn.Judged.TheVariants.{Unsound, Sound}
+use Rattle.layout.specs.Scan.{Turn}
+use Rattle.layout.specs.Scan.{More}
+use Rattle.layout.specs.Scan.{Run}
+use Rattle.layout.specs.Scan.{Ended}
+use Rattle.layout.specs.Group.{Judged}
 use Rattle.layout.specs.Answers.{Answer, refused, granted, after_run}
 use Rattle.layout.specs.Bytes.{tag_at, tagged}
 use Rattle.layout.proofs.Same.{same_is, same_itself}
+use Rattle.layout.specs.declared.turn.Met.TheVariants.{Chunk, End}
+use Rattle.std.specs.Prelude.{Ok, Err}
 
 module _ (P : ℕ → ℕ → Type 0) where
   -- of a turn
   abbrev pub TurnTold : Turn → Type 0
-  TurnTold (Refused number place) = P number place
-  TurnTold More = Unit {0}
-  TurnTold Done = Unit {0}
+  TurnTold (Err why) = P why.number why.place
+  TurnTold (Ok Chunk) = Unit {0}
+  TurnTold (Ok End) = Unit {0}
 
   -- of a run
   abbrev pub RunTold : Run → Type 0
-  RunTold (Stopped number place) = P number place
-  RunTold (Ended n) = Unit {0}
+  RunTold (Err why) = P why.number why.place
+  RunTold (Ok n) = Unit {0}
 
   -- of a verdict
   abbrev pub JudgedTold : Judged → Type 0
-  JudgedTold (Unsound number place) = P number place
-  JudgedTold (Sound ed text n m) = Unit {0}
+  JudgedTold (Err why) = P why.number why.place
+  JudgedTold (Ok x) = Unit {0}
 
   -- of an answer
   abbrev pub AnswerTold : {A : Type 0} → Answer A → Type 0
@@ -47,9 +48,9 @@ module _ (P : ℕ → ℕ → Type 0) (turn : ℕ → Turn) (Kept : ℕ → Type
     turns (suc n) k q held = go (turn k) refl (tell k (omega arith) held) (λ h. turns n (suc k) (omega arith) h)
       where
         go : (t : Turn) → turn k ≡ t → TurnTold P t → (Kept (suc k) → RunTold P (run_of turn (suc k) n)) → RunTold P (run_of turn k (suc n))
-        go (Refused a b) f h more = rw (f, run_of) h
-        go More f h more = rw (f, run_of) (more (rw (add-one k) at (next k held f)))
-        go Done f h more = rw (f, run_of) tt
+        go (Err why) f h more = rw (f, run_of) h
+        go (Ok Chunk) f h more = rw (f, run_of) (more (rw (add-one k) at (next k held f)))
+        go (Ok End) f h more = rw (f, run_of) tt
 
     pub run_told : Kept 0 → RunTold P (run turn 0 e)
     unfolding run
@@ -58,8 +59,8 @@ module _ (P : ℕ → ℕ → Type 0) (turn : ℕ → Turn) (Kept : ℕ → Type
 -- an answer after a run
 pub after_told : {A : Type 0} (P : ℕ → ℕ → Type 0) (r : Run) (ask : ℕ → Answer A) → RunTold P r → ((n : ℕ) → r ≡ Ended n → AnswerTold P (ask n)) → AnswerTold P (after_run r ask)
 unfolding after_run
-after_told P (Stopped number place) ask h f = h
-after_told P (Ended n) ask h f = f n refl
+after_told P (Err why) ask h f = h
+after_told P (Ok n) ask h f = f n refl
 
 -- ---- tags
 

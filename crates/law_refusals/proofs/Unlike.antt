@@ -8,21 +8,23 @@ use native.Mathlib.Decide.{dec_lt}
 use lib.Dec.{ltb}
 use borrow.Author.Tests.{lt-ltb, ltb-true, not-false}
 use Rattle.layout.specs.declared.edition.Edition.{Edition}
-use Rattle.layout.specs.declared.turn.Judged.{Judged}
-use Rattle.layout.specs.declared.turn.Judged.TheVariants.{Unsound, Sound}
+use Rattle.layout.specs.Group.{Judged}
+use Rattle.layout.specs.Group.{Sound}
 use Rattle.layout.specs.Editions.{alike}
 use Rattle.layout.specs.Body.{records_of, edition_in, judged_no, fixing, unlike_body}
 use Rattle.layout.proofs.Scans.{first_passed, first_stands}
 use Rattle.layout.proofs.Editions.{alike_is, unlike_is}
 use Rattle.law_refusals.specs.Body.{Recorded}
+use Rattle.std.specs.Prelude.{Ok, Err}
+use Rattle.layout.proofs.Refused.{one_edition as same_edition, one_ctabs}
 
 module _ (s : List ℕ) where
   -- ---- a group with records
 
   recorded : (i : ℕ) (r : Judged) → judged_no s i ≡ r → 0 < records_of r → Recorded s i (edition_in r)
   unfolding records_of edition_in
-  recorded i (Unsound number place) e h = absurd (omega arith)
-  recorded i (Sound ed t n m) e h = let l : 0 < n = h in record { text = t; ctabs = n; cntts = m; sound = e; some = omega arith }
+  recorded i (Err why) e h = absurd (omega arith)
+  recorded i (Ok x) e h = let l : 0 < x.ctabs = h in record { text = x.text; ctabs = x.ctabs; cntts = x.cntts; sound = e; some = omega arith }
 
   module _ (i : ℕ) (e : Edition) (r : Recorded s i e) where
     has_records : ltb 0 (records_of (judged_no s i)) ≡ true
@@ -79,8 +81,8 @@ module _ (s : List ℕ) where
     pub like_told : (ed : Edition) (t n m : ℕ) → judged_no s k ≡ Sound ed t n m → unlike_body s k ed n ≡ false → Suits k
     like_told ed t n m sound u h e f l r q =
         let z : Sound ed t n m ≡ Sound f q.text q.ctabs q.cntts = sym sound ∙ q.sound in
-        let a : ed ≡ f = cc in
-        let b : n ≡ q.ctabs = cc in
+        let a : ed ≡ f = same_edition z in
+        let b : n ≡ q.ctabs = one_ctabs z in
         let w = fixing_least k h e r in
         sym (as_fixed h e l r w) ∙ (like_is k ed n u (omega (arith, q.some)) (omega arith) ∙ a)
 

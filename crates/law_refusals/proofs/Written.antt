@@ -10,9 +10,9 @@ use lib.ListN.{length, get_or, take}
 use lib.Seq.{length-take-le, get_or-take}
 use borrow.Author.Tests.{ltb-true, ltb-false, eqb-true, eqb-false, not-true, not-false}
 use Rattle.layout.specs.declared.edition.Edition.{Edition}
-use Rattle.layout.specs.declared.turn.Turn.{Turn}
-use Rattle.layout.specs.declared.turn.Turn.TheVariants.{Refused, More, Done}
-use Rattle.layout.specs.declared.turn.Run.TheVariants.{Ended}
+use Rattle.layout.specs.Scan.{Turn}
+use Rattle.layout.specs.Scan.{Refused, More, Done}
+use Rattle.layout.specs.Scan.{Ended}
 use Rattle.layout.specs.declared.record.Record.{Record}
 use Rattle.layout.specs.Editions.{size, held, alike}
 use Rattle.layout.specs.Records.{blank, channel_of, edition_of, first_bad}

@@ -1,7 +1,7 @@
 -- When a group, and when a body is refused (document 01, "Numbers of refusal": "strict body: 3; per group header cut 2, tag 6, length 2, count 12, contents, then 13"; document 02, §4: 21).
 use Rattle.std.specs.Prelude.{ℕ, ◌+◌, ◌<◌, ◌≤◌, ◌≡◌, true, List, length, drop}
 use Rattle.layout.specs.declared.edition.Edition.{Edition}
-use Rattle.layout.specs.declared.turn.Judged.TheVariants.{Sound}
+use Rattle.layout.specs.Group.{Sound}
 use Rattle.layout.specs.Lists.{has}
 use Rattle.layout.specs.Bytes.{word, CSEG}
 use Rattle.layout.specs.Refusals.{over_limit, bad_tag, too_many_groups, name_again, other_edition}

@@ -2,7 +2,7 @@
 -- Screen: 16, then 9"; "salvage: 3"; document 02, §1: 18; §4: 21; §6: 22).
 use Rattle.std.specs.Prelude.{ℕ, ◌+◌, ◌*◌, ◌<◌, ◌≤◌, ◌≡◌, true, false, not, ◌&&◌, List, eqb, length, get_or, take}
 use Rattle.layout.specs.declared.record.Record.{Record}
-use Rattle.layout.specs.declared.record.SecondTable.TheVariants.{Absent, Value}
+use Rattle.layout.specs.Records.{Absent, Value}
 use Rattle.layout.specs.Refusals.{over_limit, bad_text, out_of_range, channel_again, no_room, bad_number, root_fixed, bad_positions, other_edition, read_only}
 use Rattle.layout.specs.Editions.{size, held}
 use Rattle.layout.specs.Lock.{lock_byte, locks}

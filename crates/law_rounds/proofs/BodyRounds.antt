@@ -8,8 +8,8 @@ use lib.ListN.{length, get_or, take, drop, length-drop, take-append-drop}
 use lib.Seq.{drop-drop, drop-length}
 use borrow.Author.Tests.{ltb-false, le-ltb}
 use Rattle.layout.specs.Scan.{first}
-use Rattle.layout.specs.declared.turn.Turn.TheVariants.{More}
-use Rattle.layout.specs.declared.turn.Run.TheVariants.{Ended}
+use Rattle.layout.specs.Scan.{More}
+use Rattle.layout.specs.Scan.{Ended}
 use Rattle.layout.specs.Sdec.{shares}
 use Rattle.layout.specs.Group.{payload, group_size, Group, group_of}
 use Rattle.layout.specs.Body.{group_place, text_at, sharing, unlike_body, records_of, edition_in, group_turn, body_run, no_group, group_value, group_no}

@@ -13,7 +13,7 @@ use Rattle.layout.specs.declared.edition.Edition.{Edition}
 use Rattle.layout.specs.declared.edition.Edition.TheVariants.{First, Second}
 use Rattle.layout.specs.Group.{head_fault, ctab_place, ctab_turn, ctabs_of, cntt_turn, cntts_of, payload, group_size, group_at}
 use Rattle.layout.specs.Chunks.{step_at}
-use Rattle.layout.specs.declared.turn.Judged.TheVariants.{Sound}
+use Rattle.layout.specs.Group.{Sound}
 use Rattle.layout.proofs.Same.{same_is}
 use Rattle.layout.proofs.Numbers.{word_drop, word_take, tag_is}
 use Rattle.layout.proofs.Heads.{head_sound}

@@ -9,7 +9,7 @@ use borrow.Author.Tests.{lt-ltb, le-ltb, lt-leb, eq-eqb, ne_eqb}
 use Rattle.layout.specs.Scan.{first}
 use Rattle.layout.specs.declared.edition.Edition.{Edition}
 use Rattle.layout.specs.declared.edition.Edition.TheVariants.{First}
-use Rattle.layout.specs.declared.record.SecondTable.TheVariants.{Absent, Value}
+use Rattle.layout.specs.Records.{Absent, Value}
 use Rattle.layout.specs.Group.{ctab_channel, ctab_of, cntt_channel, cntt_of, cntt_fault, second_of, position_of}
 use Rattle.layout.proofs.Scans.{first_none, first_is}
 use Rattle.layout.proofs.Pigeonhole.{Apart}

@@ -13,8 +13,8 @@ use Rattle.layout.specs.Scan.{first}
 use Rattle.layout.specs.Lists.{rows}
 use Rattle.layout.specs.Bytes.{Cntt}
 use Rattle.layout.specs.declared.record.Record.{Record}
-use Rattle.layout.specs.declared.record.SecondTable.{SecondTable}
-use Rattle.layout.specs.declared.record.SecondTable.TheVariants.{Absent, Value}
+use Rattle.layout.specs.Records.{SecondTable}
+use Rattle.layout.specs.Records.{Value}
 use Rattle.layout.specs.Records.{blank, channel_of, second_in, position_in}
 use Rattle.layout.specs.Write.{cntt_bytes, cntt_count, cntts_in, at_position, cntt_on, cntts_bytes}
 use Rattle.layout.proofs.Lists.{rows_length, get_d_rows}
@@ -23,6 +23,7 @@ use Rattle.layout.proofs.Positions.{owner, owners, Positions, placed_is, positio
 use Rattle.law_rounds.proofs.Runs.{one_has, found}
 use Rattle.law_rounds.proofs.Blocks.{moved, flat_alike, blocks_written, length_blocks}
 use Rattle.law_rounds.proofs.Chunks.{length_chunk}
+use Rattle.std.specs.Prelude.{None, Some}
 
 -- the Cntt that a record writes, where it has one
 abbrev pub own_cntt : Record → List ℕ
@@ -38,8 +39,8 @@ pub record CnttNumbers (rs : List Record) (m : ℕ) (home : ℕ → ℕ) : Type 
 
 one_value : (o : SecondTable) → cntt_count o ≡ 1 → (v : ℕ) × (o ≡ Value v)
 unfolding cntt_count
-one_value Absent e = absurd (omega arith)
-one_value (Value v) e = (v, refl)
+one_value None e = absurd (omega arith)
+one_value (Some v) e = (v, refl)
 
 length_value : (channel v : ℕ) → length (cntt_bytes channel (Value v)) ≡ 10
 unfolding cntt_bytes

@@ -9,8 +9,8 @@ use lib.ListN.{length, get_or, take, drop}
 use lib.Seq.{drop-cons}
 use borrow.Author.Tests.{ne_eqb}
 use Rattle.layout.specs.Bytes.{Cntt, chunk}
-use Rattle.layout.specs.declared.turn.Turn.TheVariants.{More}
-use Rattle.layout.specs.declared.record.SecondTable.TheVariants.{Value}
+use Rattle.layout.specs.Scan.{More}
+use Rattle.layout.specs.Records.{Value}
 use Rattle.layout.specs.Ranges.{cntt_value}
 use Rattle.layout.specs.Group.{head_fault, cntt_fault, cntt_at}
 use Rattle.layout.specs.Write.{cntt_bytes}

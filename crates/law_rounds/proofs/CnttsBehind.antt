@@ -7,8 +7,8 @@ use lib.ListN.{length, get_or}
 use borrow.Author.Tests.{le-ltb}
 use Rattle.layout.specs.declared.edition.Edition.{Edition}
 use Rattle.layout.specs.declared.edition.Edition.TheVariants.{First, Second}
-use Rattle.layout.specs.declared.turn.Run.TheVariants.{Ended}
-use Rattle.layout.specs.declared.record.SecondTable.TheVariants.{Absent}
+use Rattle.layout.specs.Scan.{Ended}
+use Rattle.layout.specs.Records.{Absent}
 use Rattle.layout.specs.Group.{ctab_place, ctab_of, ctabs_of, cntt_channel, cntt_of, cntt_turn, cntts_of, second_of, position_of}
 use Rattle.layout.proofs.Cntts.{CnttMore, cntt_turn_more, no_fault}
 use Rattle.layout.proofs.GroupSound.{Behind, cntts_of_lem, none_of}

@@ -13,7 +13,7 @@ use Rattle.layout.specs.Bytes.{word, Sdec, chunk}
 use Rattle.layout.specs.declared.edition.Edition.{Edition}
 use Rattle.layout.specs.Editions.{tag_of, size, held, closing}
 use Rattle.layout.specs.declared.record.Record.{Record}
-use Rattle.layout.specs.declared.record.SecondTable.TheVariants.{Absent, Value}
+use Rattle.layout.specs.Records.{Absent, Value}
 use Rattle.layout.specs.Records.{bytes_of, blank, channel_of, edition_of, second_in, position_in, bad_second, first_bad, file_bytes}
 use Rattle.layout.specs.Group.{ctab_place, ctab_channel, ctab_of, ctab_turn, ctabs_of, cntt_place, cntt_channel, cntt_of, second_of, position_of, record_at, group_of}
 use Rattle.layout.specs.Write.{ctab_bytes, cntt_bytes, cntt_count, cntts_in, cntts_bytes, payload_bytes, first_edition, Allowed}

@@ -12,7 +12,7 @@ use borrow.Author.Tests.{le-ltb, le-leb, eq-eqb, ne_eqb}
 use Rattle.layout.specs.Lists.{same}
 use Rattle.layout.specs.Scan.{first}
 use Rattle.layout.specs.Bytes.{tag_at, tagged, Cntt, chunk}
-use Rattle.layout.specs.declared.turn.Turn.TheVariants.{More}
+use Rattle.layout.specs.Scan.{More}
 use Rattle.layout.specs.declared.edition.Edition.{Edition}
 use Rattle.layout.specs.declared.edition.Edition.TheVariants.{First, Second}
 use Rattle.layout.specs.Editions.{tag_of, size, held, closing}

@@ -8,8 +8,8 @@ use lib.Dec.{ltb, leb, eqb}
 use lib.ListN.{get_or}
 use borrow.Author.Tests.{ltb-false, leb-false, eqb-true, not-false}
 use Rattle.layout.specs.Group.{ctab_place}
-use Rattle.layout.specs.declared.turn.Run.{Run}
-use Rattle.layout.specs.declared.turn.Run.TheVariants.{Stopped, Ended}
+use Rattle.layout.specs.Scan.{Run}
+use Rattle.layout.specs.Scan.{Ended}
 use Rattle.layout.specs.declared.lock.Override.{Override}
 use Rattle.layout.specs.declared.record.Record.{Record}
 use Rattle.layout.specs.Editions.{held, alike}
@@ -22,6 +22,7 @@ use Rattle.layout.specs.Asked.{standing, row_in, of_group, of_channel}
 use Rattle.layout.specs.Edit.{replaced, first_edited, edited}
 use Rattle.layout.proofs.Editions.{alike_is}
 use Rattle.law_rounds.proofs.Granted.{if_granted, granted_once}
+use Rattle.std.specs.Prelude.{Ok, Err}
 
 pub record EditGranted (s after : List ℕ) (g channel : ℕ) (new : Record) (over : Override) (x : Standing) : Type 0 where
   pub n : ℕ
@@ -49,8 +50,8 @@ edit_granted s after g channel new over e = go (body_run s) refl e
         (cond (not (alike x.edition (edition_of new))) (refused 21 0) (cond (keeps over (get_or s (ctab_place x.edition x.ctabs (row_in s x channel) + 8 + 10) 0)) (refused 22 10)
         (cond (ltb (first_edited new) (held (edition_of new))) (refused 9 (first_edited new)) (granted bytes))))))) ≡ granted after
         → EditGranted s after g channel new over (standing s g)
-    go (Stopped number place) f q = let z : ◌≡◌ {A = ℕ} 0 1 = cc in absurd (omega arith)
-    go (Ended n) f q =
+    go (Err why) f q = let z : ◌≡◌ {A = ℕ} 0 1 = cc in absurd (omega arith)
+    go (Ok n) f q =
         let a = if_granted (leb n g) 16 0 _ after q in
         let b = if_granted (leb x.records (row_in s x channel)) 15 0 _ after a.1 in
         let d = if_granted (not (eqb (channel_of new) channel)) 16 0 _ after b.1 in

@@ -9,7 +9,7 @@ use lib.Seq.{drop-drop, take_at, drop_at}
 use Rattle.layout.specs.declared.edition.Edition.{Edition}
 use Rattle.layout.specs.Bytes.{word, CSEG, Sdec, chunk}
 use Rattle.layout.specs.declared.edition.Edition.TheVariants.{First, Second}
-use Rattle.layout.specs.declared.turn.Judged.TheVariants.{Sound}
+use Rattle.layout.specs.Group.{Sound}
 use Rattle.layout.specs.Group.{ctab_place, contents, payload, group_size, group_at, Group, group_of}
 use Rattle.layout.specs.Write.{ctab_bytes, cntts_in, cntts_bytes, payload_bytes, group_bytes, first_edition, Allowed}
 use Rattle.layout.proofs.Texts.{text_most}

@@ -7,7 +7,7 @@ use lib.ListN.{length, get_or, take, drop}
 use lib.Seq.{drop-drop, take_at, drop_at}
 use Rattle.layout.specs.Editions.{held}
 use Rattle.layout.specs.Bytes.{word, CSEG, Sdec, chunk}
-use Rattle.layout.specs.declared.turn.Judged.TheVariants.{Sound}
+use Rattle.layout.specs.Group.{Sound}
 use Rattle.layout.specs.Records.{head_bytes, bytes_of, blank, channel_of, file_bytes}
 use Rattle.layout.specs.Group.{head_fault, ctab_place, payload, group_size, group_at, Group, group_of}
 use Rattle.layout.specs.Body.{text_at, records_of, edition_in, group_value}

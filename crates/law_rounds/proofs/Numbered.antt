@@ -9,11 +9,10 @@ use lib.ListN.{length, get_or, take, drop, set}
 use borrow.Author.Tests.{eqb-false}
 use Rattle.layout.specs.Scan.{run}
 use Rattle.layout.specs.Bytes.{CSEG}
-use Rattle.layout.specs.declared.turn.Turn.TheVariants.{Refused, More, Done}
-use Rattle.layout.specs.declared.turn.Run.{Run}
-use Rattle.layout.specs.declared.turn.Run.TheVariants.{Stopped, Ended}
-use Rattle.layout.specs.declared.turn.Judged.{Judged}
-use Rattle.layout.specs.declared.turn.Judged.TheVariants.{Unsound, Sound}
+use Rattle.layout.specs.Scan.{Refused, More, Done}
+use Rattle.layout.specs.Scan.{Run}
+use Rattle.layout.specs.Scan.{Stopped}
+use Rattle.layout.specs.Group.{Judged}
 use Rattle.layout.specs.Editions.{size, held, alike}
 use Rattle.layout.specs.Lock.{locks, keeps}
 use Rattle.layout.specs.Ranges.{out_of, rule_at}
@@ -31,6 +30,8 @@ use Rattle.layout.specs.Edit.{replaced, first_edited, edited}
 use Rattle.layout.specs.Screen.{field_set}
 use Rattle.layout.proofs.Runs.{run_stopped}
 use Rattle.read_salvage.proofs.Numbered.{refusal_some}
+use Rattle.std.specs.Prelude.{Ok, Err}
+use Rattle.layout.proofs.Refused.{one_number}
 
 -- ---- an answer
 
@@ -54,20 +55,20 @@ module _ {A : Type 0} where
   -- a run whose refusals have numbers above 0, and what is then asked
   run_numbered : (r : Run) (ask : ℕ → Answer A) → ((k place : ℕ) → r ≡ Stopped k place → 0 < k) → ((n : ℕ) → Numbered (ask n)) → Numbered (after_run r ask)
   unfolding after_run
-  run_numbered (Stopped a b) ask h f k place e = let z : a ≡ k = cc in rw z at (h a b refl)
-  run_numbered (Ended n) ask h f k place e = f n k place e
+  run_numbered (Err why) ask h f k place e = let z : why.number ≡ k = cc in rw z at (h why.number why.place refl)
+  run_numbered (Ok n) ask h f k place e = f n k place e
 
 -- ---- the body
 
 module _ (s : List ℕ) (n at k place : ℕ) where
   after_numbered : (r : Judged) → group_at (drop at s) ≡ r → after_contents s n at r ≡ Refused k place → 0 < k
   unfolding after_contents
-  after_numbered (Unsound a b) e q = let z : a ≡ k = cc in rw z at (refusal_some (drop at s) a b e)
-  after_numbered (Sound ed t c m) e q = go (unlike_body s n ed c) (ltb (sharing s n at) n) q
+  after_numbered (Err why) e q = let z : why.number ≡ k = one_number q in rw z at (refusal_some (drop at s) why.number why.place e)
+  after_numbered (Ok x) e q = go (unlike_body s n x.edition x.ctabs) (ltb (sharing s n at) n) q
     where
       go : (a b : Bool) → cond a (Refused 21 at) (cond b (Refused 13 at) More) ≡ Refused k place → 0 < k
-      go true b w = let z : 21 ≡ k = cc in omega arith
-      go false true w = let z : 13 ≡ k = cc in omega arith
+      go true b w = let z : 21 ≡ k = one_number w in omega arith
+      go false true w = let z : 13 ≡ k = one_number w in omega arith
       go false false w = absurd (let z : ◌≡◌ {A = ℕ} 0 1 = cc in omega arith)
 
   turn_numbered : group_turn_at s n at ≡ Refused k place → 0 < k
@@ -77,8 +78,8 @@ module _ (s : List ℕ) (n at k place : ℕ) where
       go : (a b d : Bool) → eqb (head_fault s at CSEG) 0 ≡ b
           → cond a Done (cond (not b) (Refused (head_fault s at CSEG) at) (cond d (Refused 12 at) (after_contents s n at (group_at (drop at s))))) ≡ Refused k place → 0 < k
       go true b d h r = absurd (let z : ◌≡◌ {A = ℕ} 0 1 = cc in omega arith)
-      go false false d h r = let y = eqb-false (head_fault s at CSEG) 0 h in let z : head_fault s at CSEG ≡ k = cc in omega arith
-      go false true true h r = let z : 12 ≡ k = cc in omega arith
+      go false false d h r = let y = eqb-false (head_fault s at CSEG) 0 h in let z : head_fault s at CSEG ≡ k = one_number r in omega arith
+      go false true true h r = let z : 12 ≡ k = one_number r in omega arith
       go false true false h r = after_numbered (group_at (drop at s)) refl r
 
 body_numbered : (s : List ℕ) (k place : ℕ) → body_run s ≡ Stopped k place → 0 < k
@@ -86,7 +87,7 @@ unfolding body_run group_turn
 body_numbered s k place e = go (ltb 32768 (length s)) e
   where
     go : (b : Bool) → cond b (Stopped 3 0) (run (group_turn s) 0 33) ≡ Stopped k place → 0 < k
-    go true q = let z : 3 ≡ k = cc in omega arith
+    go true q = let z : 3 ≡ k = one_number q in omega arith
     go false q = run_stopped (group_turn s) (λ n. Unit {0}) (λ n held m. tt) (λ a b. 0 < a) (λ n a b held m. turn_numbered s n (group_place s n) a b m) 33 k place tt q
 
 pub records_numbered : (s : List ℕ) (g room : ℕ) → Numbered (records_read s g room)
@@ -123,9 +124,9 @@ record_numbered rs i k place e =
     at = size (first_edition rs) * i
 
     go : (a b c : Bool) → cond a (Refused 21 at) (cond b (Refused 9 (at + first_bad (get_or rs i blank))) (cond c (Refused 10 at) More)) ≡ Refused k place → 0 < k
-    go true b c q = let z : 21 ≡ k = cc in omega arith
-    go false true c q = let z : 9 ≡ k = cc in omega arith
-    go false false true q = let z : 10 ≡ k = cc in omega arith
+    go true b c q = let z : 21 ≡ k = one_number q in omega arith
+    go false true c q = let z : 9 ≡ k = one_number q in omega arith
+    go false false true q = let z : 10 ≡ k = one_number q in omega arith
     go false false false q = absurd (let z : ◌≡◌ {A = ℕ} 0 1 = cc in omega arith)
 
 records_run_numbered : (rs : List Record) (k place : ℕ) → records_run rs ≡ Stopped k place → 0 < k

@@ -4,7 +4,7 @@ use mathlib.Core.Path.{◌≡◌}
 use mathlib.Core.List.{List}
 use lib.ListN.{get_or, take, drop}
 use Rattle.layout.specs.declared.edition.Edition.{Edition}
-use Rattle.layout.specs.declared.turn.Judged.TheVariants.{Sound}
+use Rattle.layout.specs.Group.{Sound}
 use Rattle.layout.specs.Editions.{held}
 use Rattle.layout.specs.Records.{blank, edition_of}
 use Rattle.layout.specs.Group.{ctab_place, ctab_channel, second_of, position_of, record_at, payload, group_at, group_of}

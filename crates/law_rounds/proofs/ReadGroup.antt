@@ -8,8 +8,8 @@ use lib.Dec.{ltb, leb}
 use lib.ListN.{length, take, drop}
 use lib.Seq.{take_at}
 use borrow.Author.Tests.{leb-false, le-ltb, lt-leb}
-use Rattle.layout.specs.declared.turn.Run.{Run}
-use Rattle.layout.specs.declared.turn.Run.TheVariants.{Stopped, Ended}
+use Rattle.layout.specs.Scan.{Run}
+use Rattle.layout.specs.Scan.{Ended}
 use Rattle.layout.specs.declared.record.Record.{Record}
 use Rattle.layout.specs.Answers.{refused, granted, after_run, part_of, value_or}
 use Rattle.layout.specs.Body.{group_place, text_at, body_run, group_no}
@@ -21,6 +21,7 @@ use Rattle.law_rounds.specs.Calls.{size_of_group, bytes_of_group}
 use Rattle.law_rounds.proofs.Granted.{if_granted, granted_once}
 use Rattle.law_rounds.proofs.GroupThere.{there_size, there_text}
 use Rattle.law_rounds.proofs.BodyRounds.{allowed_of, bytes_of}
+use Rattle.std.specs.Prelude.{Ok, Err}
 
 module _ (s : List ℕ) (g room : ℕ) where
   -- what granted records say: the body is accepted, it has the group, and the records are the group's own
@@ -38,8 +39,8 @@ module _ (s : List ℕ) (g room : ℕ) where
       own = (group_no s g).records
 
       go : (r : Run) → body_run s ≡ r → after_run r (λ n. cond (leb n g) (refused 16 0) (cond (ltb room (length own)) (refused 14 0) (granted own))) ≡ granted records → RecordsGranted records
-      go (Stopped number place) f q = absurd (let z : ◌≡◌ {A = ℕ} 0 1 = cc in omega arith)
-      go (Ended n) f q =
+      go (Err why) f q = absurd (let z : ◌≡◌ {A = ℕ} 0 1 = cc in omega arith)
+      go (Ok n) f q =
           let a = if_granted (leb n g) 16 0 _ records q in
           let b = if_granted (ltb room (length own)) 14 0 (granted own) records a.1 in
           record { n = n; accepted = f; there = leb-false n g a.0; own = sym (granted_once own records b.1) }

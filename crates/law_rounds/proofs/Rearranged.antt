@@ -7,7 +7,7 @@ use lib.ListN.{length, get_or, take, drop, length-append, length-drop, take-appe
 use lib.Seq.{take_at, drop_at, length-take-le}
 use Rattle.layout.specs.Bytes.{CSEG, Sdec, four, chunk}
 use Rattle.layout.specs.declared.edition.Edition.{Edition}
-use Rattle.layout.specs.declared.turn.Judged.TheVariants.{Sound}
+use Rattle.layout.specs.Group.{Sound}
 use Rattle.layout.specs.Records.{blank}
 use Rattle.layout.specs.Group.{ctab_place, payload, group_size, group_at, Group, group_of}
 use Rattle.layout.specs.Write.{ctab_bytes, cntt_count, cntts_in, cntts_bytes, payload_bytes, group_bytes, first_edition, Allowed}

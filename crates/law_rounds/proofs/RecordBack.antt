@@ -12,8 +12,8 @@ use Rattle.layout.specs.declared.edition.Edition.TheVariants.{First, Second}
 use Rattle.layout.specs.declared.record.Form.{Form}
 use Rattle.layout.specs.declared.record.Form.TheVariants.{One, Three}
 use Rattle.layout.specs.declared.record.Record.{Record}
-use Rattle.layout.specs.declared.record.SecondTable.{SecondTable}
-use Rattle.layout.specs.declared.record.SecondTable.TheVariants.{Absent}
+use Rattle.layout.specs.Records.{SecondTable}
+use Rattle.layout.specs.Records.{Absent}
 use Rattle.layout.specs.Editions.{held}
 use Rattle.layout.specs.Lock.{locks}
 use Rattle.layout.specs.Ranges.{out_of, rule_at}

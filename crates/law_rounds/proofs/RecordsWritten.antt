@@ -11,14 +11,14 @@ use lib.ListN.{length, get_or}
 use borrow.Author.Tests.{le-leb, eq-eqb, ne_eqb}
 use Rattle.layout.specs.Lists.{rows}
 use Rattle.layout.specs.Bytes.{tagged, Cntt}
-use Rattle.layout.specs.declared.turn.Turn.TheVariants.{More}
-use Rattle.layout.specs.declared.turn.Run.TheVariants.{Ended}
+use Rattle.layout.specs.Scan.{More}
+use Rattle.layout.specs.Scan.{Ended}
 use Rattle.layout.specs.declared.edition.Edition.{Edition}
 use Rattle.layout.specs.declared.edition.Edition.TheVariants.{First, Second}
 use Rattle.layout.specs.Editions.{held}
 use Rattle.layout.specs.declared.record.Record.{Record}
-use Rattle.layout.specs.declared.record.SecondTable.{SecondTable}
-use Rattle.layout.specs.declared.record.SecondTable.TheVariants.{Absent, Value}
+use Rattle.layout.specs.Records.{SecondTable}
+use Rattle.layout.specs.Records.{Absent, Value}
 use Rattle.layout.specs.Records.{head_bytes, bytes_of, record_of, blank, channel_of, edition_of, second_in, position_in, first_bad}
 use Rattle.layout.specs.Group.{ctabs_over, ctab_place, ctab_channel, ctab_turn, ctabs_of, second_of, position_of, record_at}
 use Rattle.layout.specs.Write.{cntt_count, cntts_in, Whole}
@@ -36,11 +36,12 @@ use Rattle.law_rounds.proofs.CnttHomes.{Homes, home_read, none_read}
 use Rattle.law_rounds.proofs.CtabRounds.{ctab_goes, held_at, ctab_written}
 use Rattle.law_rounds.proofs.RecordsPlaced.{Placed, ctab_there, held_there, ctab_channel_lem, homes}
 use Rattle.law_rounds.proofs.CnttRounds.{cntt_headed, written_value}
+use Rattle.std.specs.Prelude.{None, Some}
 
 none_absent : (o : SecondTable) → cntt_count o ≡ 0 → o ≡ Absent
 unfolding cntt_count
-none_absent Absent e = refl
-none_absent (Value v) e = absurd (omega arith)
+none_absent None e = refl
+none_absent (Some v) e = absurd (omega arith)
 
 -- Ctabs are fewer than their bytes
 few : (e : Edition) (p n k : ℕ) → ctab_place e p n ≤ k → n < k + 1

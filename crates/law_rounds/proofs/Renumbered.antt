@@ -14,8 +14,8 @@ use Rattle.layout.specs.Scan.{first}
 use Rattle.layout.specs.Lists.{rows}
 use Rattle.layout.specs.declared.edition.Edition.TheVariants.{Second}
 use Rattle.layout.specs.Editions.{held}
-use Rattle.layout.specs.declared.record.SecondTable.{SecondTable}
-use Rattle.layout.specs.declared.record.SecondTable.TheVariants.{Absent}
+use Rattle.layout.specs.Records.{SecondTable}
+use Rattle.layout.specs.Records.{Absent}
 use Rattle.layout.specs.declared.record.Record.{Record}
 use Rattle.layout.specs.Records.{bytes_of, blank, channel_of, edition_of, second_in, position_in, file_bytes}
 use Rattle.layout.specs.Group.{Group}

@@ -7,9 +7,9 @@ use lib.ListN.{length, take, set}
 use Rattle.layout.specs.declared.edition.Edition.{Edition}
 use Rattle.layout.specs.declared.lock.Override.{Override}
 use Rattle.layout.specs.declared.record.Record.{Record}
-use Rattle.layout.specs.declared.record.SecondTable.{SecondTable}
-use Rattle.layout.specs.declared.turn.Run.TheVariants.{Ended}
-use Rattle.layout.specs.declared.turn.Judged.TheVariants.{Sound}
+use Rattle.layout.specs.Records.{SecondTable}
+use Rattle.layout.specs.Scan.{Ended}
+use Rattle.layout.specs.Group.{Sound}
 use Rattle.layout.specs.Records.{bytes_of, record_of, edition_of, second_in, position_in}
 use Rattle.layout.specs.Editions.{held}
 use Rattle.layout.specs.Answers.{granted}

@@ -6,7 +6,7 @@ use mathlib.Core.Path.{◌≡◌, refl, sym, ap, subst}
 use mathlib.Core.List.{List}
 use lib.ListN.{length, drop}
 use borrow.Author.Tests.{le-ltb, lt-leb}
-use Rattle.layout.specs.Bytes.{word, Sdec}
+use Rattle.layout.specs.Bytes.{word}
 use Rattle.layout.specs.Editions.{size}
 use Rattle.layout.specs.declared.edition.Edition.{Edition}
 use Rattle.layout.specs.Answers.{granted}
@@ -15,8 +15,8 @@ use Rattle.layout.specs.Group.{ctab_place, group_at}
 use Rattle.layout.specs.Body.{group_place, body_run}
 use Rattle.layout.specs.Asked.{standing_at, standing, row_of}
 use Rattle.layout.specs.Chunks.{step_at, chunk_of, Site, site_no, site_of}
-use Rattle.layout.specs.declared.turn.Run.TheVariants.{Ended}
-use Rattle.layout.specs.declared.turn.Judged.TheVariants.{Sound}
+use Rattle.layout.specs.Scan.{Ended}
+use Rattle.layout.specs.Group.{Sound}
 use Rattle.layout.proofs.Ctabs.{place_before}
 use Rattle.layout.proofs.Bodies.{group_there, place_next}
 use Rattle.layout.proofs.Accepted.{body_accepted}

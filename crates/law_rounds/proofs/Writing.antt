@@ -11,10 +11,10 @@ use lib.Dec.{ltb, eqb}
 use lib.ListN.{length, get_or, take}
 use borrow.Author.Tests.{ltb-false, le-ltb, eqb-false, ne_eqb, not-false}
 use Rattle.layout.specs.Scan.{first, run_of, run}
-use Rattle.layout.specs.declared.turn.Turn.{Turn}
-use Rattle.layout.specs.declared.turn.Turn.TheVariants.{Refused, More, Done}
-use Rattle.layout.specs.declared.turn.Run.{Run}
-use Rattle.layout.specs.declared.turn.Run.TheVariants.{Stopped, Ended}
+use Rattle.layout.specs.Scan.{Turn}
+use Rattle.layout.specs.Scan.{Refused, More, Done}
+use Rattle.layout.specs.Scan.{Run}
+use Rattle.layout.specs.Scan.{Ended}
 use Rattle.layout.specs.declared.edition.Edition.{Edition}
 use Rattle.layout.specs.Editions.{size, held, alike}
 use Rattle.layout.specs.declared.record.Record.{Record}
@@ -27,6 +27,7 @@ use Rattle.layout.proofs.Scans.{first_passed, first_within, first_none}
 use Rattle.law_rounds.specs.Calls.{WholeTable, MayBeWritten}
 use Rattle.law_rounds.proofs.Granted.{if_granted, granted_once}
 use Rattle.law_rounds.proofs.Runs.{run_ran}
+use Rattle.std.specs.Prelude.{Ok, Err}
 
 -- ---- one record
 
@@ -153,8 +154,8 @@ module _ (text : List ℕ) (table : List Record) (count room : ℕ) (b : List �
     where
       go : count ≤ length table → sound_text text ≡ true → (r : Run) → records_run rs ≡ r
           → after_run r (λ n. cond (wrong_positions rs) (refused 18 0) (cond (ltb room (length own)) (refused 14 0) (granted own))) ≡ granted b → MayBeWritten text table count room b
-      go few sound (Stopped number place) run q = absurd (let z : ◌≡◌ {A = ℕ} 0 1 = cc in omega arith)
-      go few sound (Ended n) run q =
+      go few sound (Err why) run q = absurd (let z : ◌≡◌ {A = ℕ} 0 1 = cc in omega arith)
+      go few sound (Ok n) run q =
           let k = if_granted (wrong_positions rs) 18 0 _ b q in
           let h = if_granted (ltb room (length own)) 14 0 (granted own) b k.1 in
           let is : own ≡ b = granted_once own b h.1 in

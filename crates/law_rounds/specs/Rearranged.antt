@@ -2,8 +2,8 @@
 use Rattle.std.specs.Prelude.{ℕ, ◌+◌, ◌-◌, ◌<◌, ◌≡◌, length, get_or, take, drop}
 use mathlib.Core.List.{List, ◌++◌, flat_map}
 use Rattle.layout.specs.declared.edition.Edition.{Edition}
-use Rattle.layout.specs.declared.record.SecondTable.TheVariants.{Value}
-use Rattle.layout.specs.declared.turn.Judged.TheVariants.{Sound}
+use Rattle.layout.specs.Records.{Value}
+use Rattle.layout.specs.Group.{Sound}
 use Rattle.layout.specs.Lists.{rows}
 use Rattle.layout.specs.Records.{bytes_of, blank, second_in, position_in}
 use Rattle.layout.specs.Group.{ctab_place, cntt_place, payload, group_at, Group, group_of}

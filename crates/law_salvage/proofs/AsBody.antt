@@ -9,7 +9,7 @@ use mathlib.Core.List.{List}
 use lib.Dec.{ltb}
 use lib.ListN.{length}
 use borrow.Author.Tests.{le-ltb}
-use Rattle.layout.specs.declared.turn.Turn.TheVariants.{More, Done}
+use Rattle.layout.specs.Scan.{More, Done}
 use Rattle.layout.specs.Bytes.{four}
 use Rattle.layout.specs.Group.{head_fault, group_size}
 use Rattle.layout.specs.Body.{group_place, sharing, fixing, unlike_body, group_turn}

@@ -6,7 +6,7 @@ use lib.ListN.{drop}
 use Rattle.layout.specs.declared.edition.Edition.{Edition}
 use Rattle.layout.specs.declared.lock.Override.{Override}
 use Rattle.layout.specs.declared.record.Record.{Record}
-use Rattle.layout.specs.declared.record.SecondTable.{SecondTable}
+use Rattle.layout.specs.Records.{SecondTable}
 use Rattle.layout.specs.Promises.{CasmFound, SectionShown, BodyRead, GroupFound, PartFound, ChannelFound, TextShown, RecordsRead, VoiceShown, VoiceFound}
 use Rattle.layout.specs.Promises.{PlaysTold, NotePlaced, GroupWritten, RecordEdited, FileEdited, FieldSet, FieldSetInPlace, Salvaged, RecordMade, EditionTold, BytesTold, BodiesChecked, FilesChecked, SectionRead, EntryJudged, PlaceFound}
 use Rattle.layout.specs.Listing.{list_text, FileListed}

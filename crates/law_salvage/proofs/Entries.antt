@@ -9,8 +9,8 @@ use mathlib.Core.List.{List, [], ◌∷◌, map, append-nil, flatten, flat_map}
 use lib.ListN.{length, take, drop, length-take, length-drop, take-append-drop}
 use lib.Seq.{length-take-le, drop-drop}
 use Rattle.layout.specs.declared.edition.Edition.{Edition}
-use Rattle.layout.specs.declared.turn.Judged.{Judged}
-use Rattle.layout.specs.declared.turn.Judged.TheVariants.{Unsound, Sound}
+use Rattle.layout.specs.Group.{Judged}
+use Rattle.layout.specs.Group.{Unsound, Sound}
 use Rattle.layout.specs.Answers.{refused, granted, number_of}
 use Rattle.layout.specs.Bytes.{word}
 use Rattle.layout.specs.Group.{group_size, group_at}
@@ -28,6 +28,7 @@ use Rattle.layout.proofs.Elements.{all_append, all_flat_map, all_so}
 use Rattle.read_salvage.proofs.Joined.{parts_joined}
 use Rattle.law_salvage.proofs.Places.{entries_cover, entries_bytes, entries_all}
 use Rattle.law_salvage.proofs.AsBody.{reads_exactly}
+use Rattle.std.specs.Prelude.{Ok, Err}
 
 -- ---- each part
 
@@ -99,25 +100,25 @@ refused_alone p c number place e = listed_alone p number (rw (append-nil, parts_
 
 listed_facts : (p : List ℕ) → Piece p → (v : Judged) → group_at p ≡ v → Facts (listed p v)
 unfolding listed number_of
-listed_facts p c (Sound ed t n m) e =
-    let l : 8 < group_size p = size_some p ed t n m e in
-    let w : length (take (group_size p) p) ≡ group_size p = length-take-le (group_size p) p (size_within p ed t n m e) in (
+listed_facts p c (Ok x) e =
+    let l : 8 < group_size p = size_some p x.edition x.text x.ctabs x.cntts e in
+    let w : length (take (group_size p) p) ≡ group_size p = length-take-le (group_size p) p (size_within p x.edition x.text x.ctabs x.cntts e) in (
       record {
         some = rw w (omega arith);
-        exact = (λ _. taken_group p ed t n m e, λ _. refl);
-        alone = taken_alone p c ed t n m e;
-        told = λ k. rw (taken_judged p ed t n m e k);
-        whole = λ k _. taken_judged p ed t n m e k;
+        exact = (λ _. taken_group p x.edition x.text x.ctabs x.cntts e, λ _. refl);
+        alone = taken_alone p c x.edition x.text x.ctabs x.cntts e;
+        told = λ k. rw (taken_judged p x.edition x.text x.ctabs x.cntts e k);
+        whole = λ k _. taken_judged p x.edition x.text x.ctabs x.cntts e k;
       },
       rest_facts (drop (group_size p) p) (dropped_free p c (group_size p) (omega arith)),
     )
-listed_facts p c (Unsound number place) e = (
+listed_facts p c (Err why) e = (
   record {
     some = piece_some p c;
-    exact = (λ h. absurd (omega (arith, refusal_some p number place e)), λ h. absurd (let q = h.sound in let z : ◌≡◌ {A = ℕ} 0 1 = cc in omega arith));
-    alone = refused_alone p c number place e;
-    told = λ l. rw (alone_refused p l c.first number place e);
-    whole = λ l h. absurd (omega (arith, refusal_some p number place e));
+    exact = (λ h. absurd (omega (arith, refusal_some p why.number why.place e)), λ h. absurd (let q = h.sound in let z : ◌≡◌ {A = ℕ} 0 1 = cc in omega arith));
+    alone = refused_alone p c why.number why.place e;
+    told = λ l. rw (alone_refused p l c.first why.number why.place e);
+    whole = λ l h. absurd (omega (arith, refusal_some p why.number why.place e));
   },
   tt,
 )

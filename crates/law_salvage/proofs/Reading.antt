@@ -10,8 +10,8 @@ use Rattle.layout.specs.Body.{group_place, body_run}
 use Rattle.layout.specs.Answers.{refused, granted, Span}
 use Rattle.layout.specs.Bytes.{word}
 use Rattle.layout.specs.Style.{no_style, section_place, sections_run, casm_found, section_read}
-use Rattle.layout.specs.declared.turn.Run.TheVariants.{Stopped, Ended}
-use Rattle.layout.specs.declared.turn.Judged.TheVariants.{Sound}
+use Rattle.layout.specs.Scan.{Stopped, Ended}
+use Rattle.layout.specs.Group.{Sound}
 use Rattle.layout.proofs.Accepted.{body_accepted, body_place}
 use Rattle.read_salvage.proofs.Verdicts.{sound_own}
 use Rattle.read_style.proofs.PlaceLaws.{sections_fit, casm_refuses, casm_stands}

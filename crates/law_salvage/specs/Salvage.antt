@@ -3,8 +3,8 @@ use Rattle.std.specs.Prelude.{ℕ, ◌+◌, ◌*◌, ◌-◌, ◌≤◌, ◌<◌
 use mathlib.Core.List.{List, [], ◌∷◌, ◌++◌, flatten}
 use Rattle.layout.specs.declared.edition.Edition.{Edition}
 use Rattle.layout.specs.declared.answer.Counted.{Counted}
-use Rattle.layout.specs.declared.turn.Judged.TheVariants.{Sound}
-use Rattle.layout.specs.declared.turn.Run.TheVariants.{Ended}
+use Rattle.layout.specs.Group.{Sound}
+use Rattle.layout.specs.Scan.{Ended}
 use Rattle.layout.specs.Group.{group_size, group_at}
 use Rattle.layout.specs.Body.{body_run}
 use Rattle.layout.specs.Salvage.{cseg, Entry, salvage, list_numbers}

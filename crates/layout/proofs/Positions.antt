@@ -14,19 +14,20 @@ use Rattle.layout.specs.Records.{Record, SecondTable, Absent, Value, blank, seco
 use Rattle.layout.specs.Write.{cntt_count, cntts_in, placed_at, at_position, wrong_position}
 use Rattle.layout.proofs.Pigeonhole.{Apart, pigeonhole}
 use Rattle.layout.proofs.Scans.{first_passed, first_stands, first_is}
+use Rattle.std.specs.Prelude.{None, Some}
 
 -- a record has one Cntt or none
 pub one_or_none : (o : SecondTable) → (cntt_count o ≡ 0) ⊎ (cntt_count o ≡ 1)
 unfolding cntt_count
-one_or_none Absent = inl refl
-one_or_none (Value v) = inr refl
+one_or_none None = inl refl
+one_or_none (Some v) = inr refl
 
 -- ---- the records that have a Cntt, numbered from the front
 
 owner_with : SecondTable → (ℕ → ℕ) → ℕ → ℕ
-owner_with Absent h j = suc (h j)
-owner_with (Value v) h zero = zero
-owner_with (Value v) h (suc j) = suc (h j)
+owner_with None h j = suc (h j)
+owner_with (Some v) h zero = zero
+owner_with (Some v) h (suc j) = suc (h j)
 
 -- the number of the record that is the j-th with a Cntt
 pub owner : List Record → ℕ → ℕ
@@ -88,8 +89,8 @@ owners [] =
 owners (r ∷ rs) = go (second_in r) refl (owners rs)
   where
     go : (o : SecondTable) → second_in r ≡ o → Owners rs (cntts_in rs) (owner rs) → Owners (r ∷ rs) (cntt_count o + cntts_in rs) (owner_with o (owner rs))
-    go Absent e f = let z : 0 + cntts_in rs ≡ cntts_in rs = omega arith in rw z (without r rs (cntts_in rs) (owner rs) f e)
-    go (Value v) e f = let z : 1 + cntts_in rs ≡ suc (cntts_in rs) = omega arith in rw z (with_one r rs (cntts_in rs) (owner rs) f v e)
+    go None e f = let z : 0 + cntts_in rs ≡ cntts_in rs = omega arith in rw z (without r rs (cntts_in rs) (owner rs) f e)
+    go (Some v) e f = let z : 1 + cntts_in rs ≡ suc (cntts_in rs) = omega arith in rw z (with_one r rs (cntts_in rs) (owner rs) f v e)
 
 -- there are no more Cntts than records
 pub cntts_most : (rs : List Record) → cntts_in rs ≤ length rs

@@ -1,5 +1,5 @@
 // Read only (document 02, §6): a record that is locked stays as it is unless the caller of an edit asks to override.
-#[derive(Clone, Copy)]
+#[derive(Clone, Copy, PartialEq, Eq)]
 pub enum Override {
     NotAsked,
     Asked,

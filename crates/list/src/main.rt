@@ -17,7 +17,7 @@ fn text() -> [u8; TEXT] {
     [0; TEXT]
 }
 
-// Reads until the room is full, the input ends or a read fails, and answers how many bytes came.
+// Reads until the room is full, the input ends or a read fails, and answers how many bytes came. No `for`: each turn goes on by as much as came.
 fn read_full<R: Read>(input: &mut R, room: &mut [u8]) -> usize
     ensures { result ≤ length room.old }
 {

@@ -1,11 +1,9 @@
--- Bytes put one behind the other stand together at the first place; and byte by byte they come about.
-use Prim.Native.Nat.{ℕ, ◌+◌, ◌≤◌, ◌<◌}
-use mathlib.Core.Path.{◌≡◌, sym, ap, ap₂, ◌∙◌}
-use mathlib.Core.List.{List, ◌++◌, append_assoc}
+-- Bytes put one behind the other stand together at the first place.
+use Prim.Native.Nat.{ℕ, ◌≤◌}
+use mathlib.Core.Path.{◌≡◌, ap₂, ◌∙◌}
+use mathlib.Core.List.{List, ◌++◌}
 use native.Mathlib.Omega.{arith}
-use native.Mathlib.Numerals.{add-one}
-use lib.ListN.{length, get_or, set, take, drop, length-append}
-use lib.Seq.{paste, paste-zero, paste-suc, length-paste, take_all}
+use lib.ListN.{length, length-append}
 use Rattle.layout.specs.Edit.{replaced}
 use Rattle.layout.proofs.Replaced.{replaced_twice}
 use Rattle.list_spell.specs.Puts.{Put}
@@ -31,37 +29,3 @@ module _ (s : List ℕ) (at : ℕ) (a b c d : List ℕ) (i : ℕ) (one : List �
   pub four_put : at ≤ length s → i ≤ length one → j ≤ length two → Put s at a i one → Put one i b j two → Put two j c k three → Put three k d r after
       → Put s at (a ++ (b ++ (c ++ d))) r after
   four_put h g f p q t u = two_put s at a (b ++ (c ++ d)) i one r after h p (three_put one i b c d j two k three r after g f q t u)
-
--- ---- byte by byte
-
-module _ (d : List ℕ) (at : ℕ) (b : List ℕ) where
-  -- the first i bytes are put
-  pub record Stored (now : List ℕ) (i : ℕ) : Type 0 where
-    pub some : i ≤ length b
-    pub so : now ≡ paste d at b i
-
-  pub stored_start : Stored d 0
-  stored_start = record { some = omega arith; so = paste-zero d at b }
-
-  module _ (room : at + length b ≤ length d) (now : List ℕ) (i : ℕ) (s : Stored now i) where
-    pub stored_length : length now ≡ length d
-    stored_length = ap length s.so ∙ length-paste d at b i (omega (arith, room, s.some)) s.some
-
-    pub stored_next : i < length b → Stored (set now (at + i) (get_or b i 0)) (i + 1)
-    stored_next h =
-        record {
-          some = omega arith;
-          so = ap (λ (x : List ℕ). set x (at + i) (get_or b i 0)) s.so ∙ (paste-suc d at b i 0 (omega (arith, room)) h ∙ ap (paste d at b) (sym (add-one i)));
-        }
-
-    pub stored_end : length b ≤ i → Put d at b (at + i) now
-    unfolding replaced
-    stored_end h =
-        let z : i ≡ length b = omega (arith, s.some) in
-        record {
-          place = ap (λ k. at + k) z;
-          buffer =
-              s.so
-              ∙ (ap (paste d at b) z
-              ∙ (ap (λ (x : List ℕ). take at d ++ x ++ drop (at + length b) d) (take_all (length b) b (omega arith)) ∙ append_assoc (take at d) b (drop (at + length b) d)));
-        }

@@ -1,4 +1,5 @@
-// Bytes and numbers put at a place of a lent buffer; each function answers the place behind what it put.
+// Bytes and numbers put at a place of a lent buffer; each function answers the place behind what it put. Buffer and place stay apart, with no writer that holds both:
+// `FileListed`, the promise of `list_text::list_file`, speaks of the buffer before and after, and of the length as the answer.
 ghost use Rattle.std.specs.Prelude.{◌+◌, ◌≤◌, length};
 ghost use Rattle.layout.specs.Listing.{decimal, spaced};
 ghost use Rattle.list_spell.specs.Puts.{Put};
@@ -8,12 +9,9 @@ pub fn put_bytes(out: &mut [u8], at: usize, b: &[u8]) -> usize
     requires { at + length b.now ≤ length out.old }
     ensures { Put out.old at b.now result out.new }
 {
-    let mut i: usize = 0;
-    while i < b.len() {
-        out[at + i] = b[i];
-        i += 1;
-    }
-    at + i
+    let behind = at + b.len();
+    out[at..behind].copy_from_slice(b);
+    behind
 }
 
 // A number in decimal: twenty digits at most.

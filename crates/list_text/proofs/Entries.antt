@@ -77,7 +77,7 @@ module _ (list : List ℕ) where
       so_far : at + length (lines k) + 63 ≤ length old
       so_far = omega (arith, room, lines_most k n t.some)
 
-      pub told_length : length now ≡ length old
+      told_length : length now ≡ length old
       told_length = ap length t.so.buffer ∙ replaced_length old at (lines k) (omega (arith, so_far))
 
       pub told_room : behind + 63 ≤ length now
@@ -91,6 +91,3 @@ module _ (list : List ℕ) where
                 put_same old at (lines k ++ entry_line (entry_at list k)) (lines (k + 1)) r after (sym (ap lines (add-one k) ∙ lines_suc k))
                 (two_put old at (lines k) (entry_line (entry_at list k)) behind now r after (omega (arith, so_far)) t.so p);
           }
-
-      pub told_end : n ≤ k → Put old at (lines n) behind now
-      told_end h = let z : k ≡ n = omega (arith, t.some) in put_same old at (lines k) (lines n) behind now (ap lines z) t.so

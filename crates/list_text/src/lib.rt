@@ -26,11 +26,9 @@ fn put_entries(out: &mut [u8], at: usize, list: &[usize], n: usize) -> usize
     ensures { Put out.old at (flat_map entry_line (entries_in list.now n)) result out.new }
 {
     let mut behind = at;
-    let mut k: usize = 0;
-    while k < n {
+    for k in 0..n {
         let from = 3 * k;
         behind = put_entry(out, behind, list[from], list[from + 1], list[from + 2]);
-        k += 1;
     }
     behind
 }
@@ -56,6 +54,7 @@ pub fn list_file(file: &[u8], out: &mut [u8; TEXT]) -> usize
     if LISTED < file.len() {
         return put_refused(text, OVER_LIMIT, 0);
     }
+    // Its answer is a number and a place, 0 for none, as the answers that cross to C have it.
     let found = read_style::find_casm(file);
     if found.number != 0 {
         return put_refused(text, found.number, found.place);

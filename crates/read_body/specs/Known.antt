@@ -1,73 +1,99 @@
 -- What strict reading knows of a body's first n groups: where they stand, and what is inside them. The names are looked at last.
-use Rattle.std.specs.Prelude.{ℕ, ◌+◌, ◌≤◌, ◌<◌, ◌≡◌, Bool, true, false, cond, not, ◌&&◌, List, ltb, eqb, length, get_or, drop}
-use Rattle.layout.specs.Scan.{run}
+use Rattle.std.specs.Prelude.{ℕ, ◌+◌, ◌≤◌, ◌<◌, ◌≡◌, Bool, false, cond, not, ◌&&◌, List, ltb, eqb, length, get_or, set, drop, Option, Some, None, unwrap_or, Result, Ok, Err}
+use Rattle.layout.specs.Scan.{Turn, Refused, More, Done, Run, Ended, run}
+use Rattle.layout.specs.declared.turn.Refusal.{Refusal}
+use Rattle.layout.specs.declared.turn.Met.TheVariants.{Chunk, End}
 use Rattle.layout.specs.Bytes.{word}
 use Rattle.layout.specs.Refusals.{name_again}
-use Rattle.layout.specs.Group.{group_at}
+use Rattle.layout.specs.Group.{Sound, group_at}
 use Rattle.layout.specs.Body.{group_place, judged_no, edition_in, fixing, unlike_body, group_turn, body_run, group_limit}
-use Rattle.layout.specs.Editions.{alike}
 use Rattle.layout.specs.declared.edition.Edition.{Edition}
 use Rattle.layout.specs.declared.edition.Edition.TheVariants.{First}
-use Rattle.layout.specs.declared.turn.Turn.{Turn}
-use Rattle.layout.specs.declared.turn.Turn.TheVariants.{Refused, More, Done}
-use Rattle.layout.specs.declared.turn.Run.{Run}
-use Rattle.layout.specs.declared.turn.Run.TheVariants.{Ended}
-use Rattle.layout.specs.declared.turn.Judged.TheVariants.{Sound}
+use Rattle.layout.specs.Editions.{alike}
+use Rattle.layout.specs.declared.turn.Inside.{Inside}
 use Rattle.read_met.specs.Before.{Places, again}
-use Rattle.read_body.specs.declared.survey.Turned.{Turned}
-use Rattle.read_body.specs.declared.survey.Entered.{Entered}
-
--- lent tables have a place for each group
-abbrev pub Lent : List ℕ → List ℕ → List ℕ → Type 0
-Lent places records seconds = (length places ≡ 32) × ((length records ≡ 32) × (length seconds ≡ 32))
+use Rattle.read_body.specs.declared.groups.Counts.{Counts}
+use Rattle.read_body.specs.declared.groups.Groups.{Groups}
 
 -- ---- the edition of a body: that of its first group with records
 
--- what is known of it after n groups: whether one of them has records, and then the edition of the first that has
-pub record Fixed (s : List ℕ) (n : ℕ) (known : Bool) (body : Edition) : Type 0 where
-  pub some : known ≡ ltb (fixing s n) n
-  pub edition : known ≡ true → body ≡ edition_in (judged_no s (fixing s n))
+-- what is known of it after n groups: the edition of the first of them that has records, where one has
+pub record Fixed (s : List ℕ) (n : ℕ) (body : Option Edition) : Type 0 where
+  pub none : body ≡ None → n ≤ fixing s n
+  pub some : (e : Edition) → body ≡ Some e → (fixing s n < n) × (e ≡ edition_in (judged_no s (fixing s n)))
 
 -- a group of c records is of another edition than the body, where that is known
-unfoldable pub unlike : Bool → Edition → Edition → ℕ → Bool
-unlike known body e c = ltb 0 c && (known && not (alike body e))
+unfoldable pub unlike : Option Edition → Edition → ℕ → Bool
+unlike None e c = false
+unlike (Some body) e c = ltb 0 c && not (alike body e)
 
 -- the edition after a group: the first with records decides
-unfoldable pub edition_after : Bool → Edition → Edition → ℕ → Edition
-edition_after known body e c = cond (eqb c 0) body (cond known body e)
+unfoldable pub edition_after : Option Edition → Edition → ℕ → Option Edition
+edition_after (Some body) e c = Some body
+edition_after None e c = cond (eqb c 0) None (Some e)
 
 -- the edition of a group of c records in a body of an edition: "one without records suits either", and is told as of the first
-unfoldable pub edition_with : Edition → ℕ → Edition
-edition_with body c = cond (eqb c 0) First body
+unfoldable pub edition_with : Option Edition → ℕ → Edition
+edition_with body c = cond (eqb c 0) First (unwrap_or body First)
+
+-- the tables with one group more, which stands at `at`
+abbrev pub with_group : Groups → ℕ → Inside → Groups
+with_group t at x =
+    record {
+      count = t.count + 1;
+      places = set t.places t.count at;
+      counts = set t.counts t.count (record { ctabs = x.ctabs; cntts = x.cntts });
+      edition = edition_after t.edition x.edition x.ctabs;
+    }
+
+-- what group number k has
+abbrev pub counts_no : Groups → ℕ → Counts
+counts_no t k = get_or t.counts k (record { ctabs = 0; cntts = 0 })
 
 -- tables of how many Ctabs and Cntts each of n groups has; those with records are of the body's edition
-pub record Insides (s : List ℕ) (n : ℕ) (records seconds : List ℕ) (body : Edition) : Type 0 where
-  pub sizes : (length records ≡ 32) × (length seconds ≡ 32)
-  pub sound : (k : ℕ) → k < n → judged_no s k ≡ Sound (edition_with body (get_or records k 0)) (word s (group_place s k + 12)) (get_or records k 0) (get_or seconds k 0)
+pub record Insides (s : List ℕ) (n : ℕ) (t : Groups) : Type 0 where
+  pub size : length t.counts ≡ 32
+  pub sound : (k : ℕ) → k < n → judged_no s k ≡ Sound (edition_with t.edition (counts_no t k).ctabs) (word s (group_place s k + 12)) (counts_no t k).ctabs (counts_no t k).cntts
 
 -- ".. contents, then 13": a turn at `at`, once it is known whether a name of it stands in an earlier group
 unfoldable pub after_names : Bool → ℕ → Turn → Turn
-after_names b at (Refused number place) = Refused number place
-after_names b at More = cond b (Refused name_again at) More
-after_names b at Done = Done
+after_names b at (Err why) = Err why
+after_names b at (Ok Chunk) = cond b (Refused name_again at) More
+after_names b at (Ok End) = Done
 
--- a turn but for its names, and where it goes on what is inside the group
+-- a turn but for its names: where it goes on what is inside the group, and nothing at the end
+abbrev pub Turned : Type 0
+Turned = Result (Option Inside) Refusal
+
+unfoldable pub turn_of : Turned → Turn
+turn_of (Err why) = Err why
+turn_of (Ok None) = Done
+turn_of (Ok (Some x)) = More
+
+-- so it is told
 pub record GroupTurned (s : List ℕ) (n at : ℕ) (r : Turned) : Type 0 where
-  pub turn : group_turn s n ≡ after_names (again s n) at r.turn
-  pub few : r.turn ≡ More → n < 32
-  pub like : r.turn ≡ More → unlike_body s n r.edition r.records ≡ false
-  pub sound : r.turn ≡ More → group_at (drop at s) ≡ Sound r.edition (word s (at + 12)) r.records r.seconds
+  pub turn : group_turn s n ≡ after_names (again s n) at (turn_of r)
+  pub few : (x : Inside) → r ≡ Ok (Some x) → n < 32
+  pub like : (x : Inside) → r ≡ Ok (Some x) → unlike_body s n x.edition x.ctabs ≡ false
+  pub sound : (x : Inside) → r ≡ Ok (Some x) → group_at (drop at s) ≡ Sound x.edition (word s (at + 12)) x.ctabs x.cntts
 
 -- the groups that go on but for their names, and the run after them
-pub record GroupsEntered (s : List ℕ) (r : Entered) (places records seconds : List ℕ) : Type 0 where
-  pub few : r.groups ≤ 32
-  pub stand : Places s r.groups places
-  pub insides : Insides s r.groups records seconds r.edition
-  pub turns : (k : ℕ) → k < r.groups → group_turn s k ≡ cond (again s k) (Refused name_again (group_place s k)) More
-  pub rest : run (group_turn s) r.groups (group_limit + 1) ≡ r.run
-  pub ended : (n : ℕ) → r.run ≡ Ended n → r.groups ≡ n
+pub record GroupsEntered (s : List ℕ) (r : Run) (t : Groups) : Type 0 where
+  pub few : t.count ≤ 32
+  pub stand : Places s t.count t.places
+  pub insides : Insides s t.count t
+  pub turns : (k : ℕ) → k < t.count → group_turn s k ≡ cond (again s k) (Refused name_again (group_place s k)) More
+  pub rest : run (group_turn s) t.count (group_limit + 1) ≡ r
+  pub ended : (n : ℕ) → r ≡ Ended n → t.count ≡ n
+
+-- so many groups are in the tables
+pub record Entered (s : List ℕ) (n : ℕ) (t : Groups) : Type 0 where
+  pub few : n ≤ 32
+  pub count : t.count ≡ n
+  pub stand : Places s n t.places
+  pub insides : Insides s n t
 
 -- a whole body, and where it is accepted the tables of its groups
-pub record BodySurveyed (s : List ℕ) (r : Run) (body : Edition) (places records seconds : List ℕ) : Type 0 where
+pub record BodySurveyed (s : List ℕ) (r : Run) (t : Groups) : Type 0 where
   pub run : r ≡ body_run s
-  pub known : (n : ℕ) → r ≡ Ended n → (n ≤ 32) × (Places s n places × Insides s n records seconds body)
+  pub known : (n : ℕ) → r ≡ Ended n → Entered s n t

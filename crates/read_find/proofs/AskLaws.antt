@@ -1,24 +1,23 @@
 -- What a search for a group says of every question that is asked after the body: its refusals, and where the group stands.
 use Prim.Native.Nat.{ℕ, ◌+◌, ◌*◌, ◌≤◌, ◌<◌}
 use native.Mathlib.Omega.{arith}
-use mathlib.Core.Path.{◌≡◌, refl}
+use mathlib.Core.Path.{◌≡◌, refl, ap, ◌∙◌}
 use mathlib.Core.Bool.{Bool, true, false, cond}
 use mathlib.Core.List.{List}
 use lib.Dec.{leb}
-use lib.ListN.{length, drop}
+use lib.ListN.{length}
 use borrow.Author.Tests.{lt-leb, leb-false}
 use Rattle.layout.specs.Answers.{Answer, refused, after_run}
 use Rattle.layout.specs.Body.{group_place, body_run}
 use Rattle.layout.specs.Asked.{standing_at, standing, of_group, group_named, of_part}
-use Rattle.layout.specs.declared.turn.Run.{Run}
-use Rattle.layout.specs.declared.turn.Run.TheVariants.{Stopped, Ended}
+use Rattle.layout.specs.Scan.{Run, Stopped, Ended}
+use Rattle.layout.specs.declared.turn.Refusal.{Refusal}
 use Rattle.layout.specs.Group.{ctab_place}
 use Rattle.layout.specs.declared.answer.Standing.{Standing}
 use Rattle.layout.proofs.Bodies.{group_there}
 use Rattle.layout.proofs.Accepted.{body_accepted}
-use Rattle.read_find.specs.declared.Search.{Search}
-use Rattle.read_find.specs.declared.Search.TheVariants.{Refused, Missing, Found}
-use Rattle.read_find.specs.Find.{among, numbered, group_located, part_located}
+use Rattle.read_find.specs.Find.{Stands, Search, Refused, Missing, Found, among, numbered, group_located, part_located, told}
+use Rattle.std.specs.Prelude.{Option, Some, None, ok_or, Ok, Err}
 
 -- the parts of a group stand within the body
 pub record Within (s : List ℕ) (x : Standing) : Type 0 where
@@ -50,35 +49,57 @@ look s k n = numbered s n (k n)
 
 module _ (s : List ℕ) (k : ℕ → ℕ) where
   refusing : (a b : ℕ) (r : Run) → among r (look s k) ≡ Refused a b → r ≡ Stopped a b
-  refusing a b (Stopped c d) q = let y : c ≡ a = cc in let z : d ≡ b = cc in rw (y, z)
-  refusing a b (Ended n) q = go (leb n (k n)) q
+  refusing a b (Err why) q = let z : ◌≡◌ {A = Refusal} why (record { number = a; place = b }) = cc in ap Err z
+  refusing a b (Ok n) q = go (leb n (k n)) q
     where
       go : (x : Bool) → cond x Missing (Found (k n) (standing s (k n))) ≡ Refused a b → Ended n ≡ Stopped a b
       go true w = absurd (let z : ◌≡◌ {A = ℕ} 0 1 = cc in omega arith)
       go false w = absurd (let z : ◌≡◌ {A = ℕ} 0 1 = cc in omega arith)
 
   missing : (r : Run) → among r (look s k) ≡ Missing → (n : ℕ) × ((r ≡ Ended n) × (leb n (k n) ≡ true))
-  missing (Stopped c d) q = absurd (let z : ◌≡◌ {A = ℕ} 0 1 = cc in omega arith)
-  missing (Ended n) q = go (leb n (k n)) refl q
+  missing (Err why) q = absurd (let z : ◌≡◌ {A = ℕ} 0 1 = cc in omega arith)
+  missing (Ok n) q = go (leb n (k n)) refl q
     where
       go : (x : Bool) → leb n (k n) ≡ x → cond x Missing (Found (k n) (standing s (k n))) ≡ Missing → (m : ℕ) × ((Ended n ≡ Ended m) × (leb m (k m) ≡ true))
       go true h w = (n, (refl, h))
       go false h w = absurd (let z : ◌≡◌ {A = ℕ} 0 1 = cc in omega arith)
 
   finding : (j : ℕ) (x : Standing) (r : Run) → body_run s ≡ r → among r (look s k) ≡ Found j x → (there : There s j x) × (k there.count ≡ j)
-  finding j x (Stopped c d) e q = absurd (let z : ◌≡◌ {A = ℕ} 0 1 = cc in omega arith)
-  finding j x (Ended n) e q = go (leb n (k n)) refl q
+  finding j x (Err why) e q = absurd (let z : ◌≡◌ {A = ℕ} 0 1 = cc in omega arith)
+  finding j x (Ok n) e q = go (leb n (k n)) refl q
     where
       go : (b : Bool) → leb n (k n) ≡ b → cond b Missing (Found (k n) (standing s (k n))) ≡ Found j x → (there : There s j x) × (k there.count ≡ j)
       go true h w = absurd (let z : ◌≡◌ {A = ℕ} 0 1 = cc in omega arith)
       go false h w =
-          let y : k n ≡ j = cc in
-          let z : standing s (k n) ≡ x = cc in
-          (record { count = n; run = e; below = rw (← y) (leb-false n (k n) h); stands = rw (← y) z }, y)
+          let z : ◌≡◌ {A = Stands} (record { group = k n; standing = standing s (k n) }) (record { group = j; standing = x }) = cc in
+          let y : k n ≡ j = ap (λ (w : Stands). w.group) z in
+          (record { count = n; run = e; below = rw (← y) (leb-false n (k n) h); stands = rw (← y) (ap (λ (w : Stands). w.standing) z) }, y)
 
 -- a group that was found stands within the body
 pub there_within : (s : List ℕ) (k : ℕ) (x : Standing) → There s k x → Within s x
 there_within s k x there = rw (← there.stands) (standing_within s there.count k there.run there.below)
+
+-- ---- what is told of what was found
+
+pub told_there : (number : ℕ) (o : Option Stands) → ok_or o (record { number = number; place = 0 }) ≡ told number (Ok o)
+unfolding told
+told_there number None = refl
+told_there number (Some x) = refl
+
+-- what is told is what was found
+pub told_found : (number : ℕ) (r : Search) (x : Stands) → told number r ≡ Ok x → r ≡ Ok (Some x)
+unfolding told
+told_found number (Err why) x q = absurd (let z : ◌≡◌ {A = ℕ} 0 1 = cc in omega arith)
+told_found number (Ok None) x q = absurd (let z : ◌≡◌ {A = ℕ} 0 1 = cc in omega arith)
+told_found number (Ok (Some y)) x q = let z : y ≡ x = cc in rw z
+
+-- .. or the refusal of the body, or the number's
+pub told_refused : {A : Type 0} (number : ℕ) (r : Search) (answer : Answer A) → ((a b : ℕ) → r ≡ Refused a b → answer ≡ refused a b) → (r ≡ Missing → answer ≡ refused number 0)
+    → (why : Refusal) → told number r ≡ Err why → answer ≡ refused why.number why.place
+unfolding told
+told_refused number (Err why') answer f g why q = let z : why' ≡ why = cc in f why'.number why'.place refl ∙ ap (λ (w : Refusal). refused w.number w.place) z
+told_refused number (Ok None) answer f g why q = let z : ◌≡◌ {A = Refusal} (record { number = number; place = 0 }) why = cc in g refl ∙ ap (λ (w : Refusal). refused w.number w.place) z
+told_refused number (Ok (Some x)) answer f g why q = absurd (let z : ◌≡◌ {A = ℕ} 0 1 = cc in omega arith)
 
 -- ---- by number
 
@@ -103,6 +124,10 @@ module _ (s : List ℕ) (g : ℕ) where
     pub of_missing : group_located s g ≡ Missing → of_group s g ask ≡ refused 16 0
     unfolding of_group after_run
     of_missing h = let r = group_ended h in rw (r.1.0, after_run) (rw r.1.1)
+
+    -- .. which is 16 for a group that is not there
+    pub of_told : (why : Refusal) → told 16 (group_located s g) ≡ Err why → of_group s g ask ≡ refused why.number why.place
+    of_told why h = told_refused 16 (group_located s g) (of_group s g ask) (λ a b q. of_refused a b q) (λ q. of_missing q) why h
 
     pub of_found : (x : Standing) → There s g x → of_group s g ask ≡ ask
     unfolding of_group after_run

@@ -6,18 +6,18 @@ use mathlib.Core.List.{List}
 use lib.ListN.{length, get_or, drop}
 use borrow.Author.Tests.{le-leb, lt-leb}
 use Rattle.layout.specs.Bytes.{word}
-use Rattle.layout.specs.Group.{ctab_place, group_size, group_at}
+use Rattle.layout.specs.Group.{ctab_place, Sound, group_size, group_at}
 use Rattle.layout.specs.Body.{body_run}
 use Rattle.layout.specs.Asked.{standing_at, standing, group_named}
 use Rattle.layout.specs.declared.edition.Edition.{Edition}
-use Rattle.layout.specs.declared.turn.Run.TheVariants.{Stopped, Ended}
-use Rattle.layout.specs.declared.turn.Judged.TheVariants.{Sound}
+use Rattle.std.specs.Prelude.{Err}
+use Rattle.layout.specs.Scan.{Ended}
+use Rattle.layout.specs.declared.turn.Refusal.{Refusal}
 use Rattle.layout.specs.declared.answer.Standing.{Standing}
 use Rattle.layout.proofs.Numbers.{word_drop}
-use Rattle.read_find.specs.declared.Search.TheVariants.{Refused, Missing, Found}
-use Rattle.read_met.specs.Before.{Places}
-use Rattle.read_body.specs.Known.{edition_with, Insides}
-use Rattle.read_find.specs.Find.{numbered, group_located, part_located}
+use Rattle.read_body.specs.declared.groups.Groups.{Groups}
+use Rattle.read_body.specs.Known.{edition_with, counts_no, Entered}
+use Rattle.read_find.specs.Find.{Missing, Found, numbered, group_located, part_located}
 
 -- the numbers of a sound group
 pub standing_is : (s : List ℕ) (ed : Edition) (at l w c m : ℕ) → group_at (drop at s) ≡ Sound ed (word s (at + 12)) c m → l ≡ word s (at + 12) → w ≡ word s (at + 4)
@@ -31,26 +31,26 @@ module _ (s : List ℕ) (n : ℕ) where
   pub number_missing : (k : ℕ) → n ≤ k → numbered s n k ≡ Missing
   number_missing k h = rw (le-leb n k h)
 
-  module _ (body : Edition) (places records seconds : List ℕ) (ps : Places s n places) (is : Insides s n records seconds body) (k : ℕ) (h : k < n) where
-    pub entry_sound : group_at (drop (get_or places k 0) s) ≡ Sound (edition_with body (get_or records k 0)) (word s (get_or places k 0 + 12)) (get_or records k 0) (get_or seconds k 0)
-    entry_sound = rw (ps.place k h) (is.sound k h)
+  module _ (t : Groups) (e : Entered s n t) (k : ℕ) (h : k < n) where
+    pub entry_sound : group_at (drop (get_or t.places k 0) s) ≡ Sound (edition_with t.edition (counts_no t k).ctabs) (word s (get_or t.places k 0 + 12)) (counts_no t k).ctabs (counts_no t k).cntts
+    entry_sound = rw (e.stand.place k h) (e.insides.sound k h)
 
-    pub entry_within : get_or places k 0 ≤ length s
-    entry_within = omega (arith, ps.fits k h, ps.place k h)
+    pub entry_within : get_or t.places k 0 ≤ length s
+    entry_within = omega (arith, e.stand.fits k h, e.stand.place k h)
 
-    pub number_found : (x : Standing) → x ≡ standing_at s (get_or places k 0) (group_at (drop (get_or places k 0) s)) → numbered s n k ≡ Found k x
+    pub number_found : (x : Standing) → x ≡ standing_at s (get_or t.places k 0) (group_at (drop (get_or t.places k 0) s)) → numbered s n k ≡ Found k x
     unfolding standing
-    number_found x q = rw (lt-leb n k h, ← (ps.place k h), ← q)
+    number_found x q = rw (lt-leb n k h, ← (e.stand.place k h), ← q)
 
 -- ---- the ways out of a search
 
 module _ (s : List ℕ) where
-  module _ (number place : ℕ) (e : body_run s ≡ Stopped number place) where
-    pub group_refused : (g : ℕ) → group_located s g ≡ Refused number place
+  module _ (why : Refusal) (e : body_run s ≡ Err why) where
+    pub group_refused : (g : ℕ) → group_located s g ≡ Err why
     unfolding group_located
     group_refused g = rw e
 
-    pub part_refused : (name : List ℕ) → part_located s name ≡ Refused number place
+    pub part_refused : (name : List ℕ) → part_located s name ≡ Err why
     unfolding part_located
     part_refused name = rw e
 

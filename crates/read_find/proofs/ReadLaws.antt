@@ -1,16 +1,17 @@
 -- The answers of strict reading, one law for each way out of a call.
-use Prim.Native.Nat.{ℕ, ◌+◌, ◌-◌, ◌≤◌, ◌<◌}
+use Prim.Native.Nat.{ℕ, ◌+◌, ◌-◌}
 use native.Mathlib.Omega.{arith}
-use mathlib.Core.Path.{◌≡◌, refl, sym, ◌∙◌}
+use mathlib.Core.Path.{◌≡◌, refl}
 use mathlib.Core.List.{List, []}
-use lib.ListN.{length, take, drop, length-drop, drop_of_length-le}
-use lib.Seq.{take-nil, take_all}
+use lib.ListN.{take, drop}
 use Rattle.layout.specs.Bytes.{word}
 use Rattle.layout.specs.Answers.{refused, granted, number_of, place_of, value_or, after_run, part_of, counted, named, nowhere, grouped}
 use Rattle.layout.specs.Body.{group_place, text_at, body_run, body_read}
 use Rattle.layout.specs.declared.edition.Edition.{Edition}
 use Rattle.layout.specs.Asked.{standing_at, standing, group_found, part_found, channel_found, channelled, text_of}
-use Rattle.layout.specs.declared.turn.Run.TheVariants.{Stopped, Ended}
+use Rattle.std.specs.Prelude.{Err}
+use Rattle.layout.specs.Scan.{Stopped, Ended}
+use Rattle.layout.specs.declared.turn.Refusal.{Refusal}
 use Rattle.layout.specs.declared.answer.Counted.{Counted}
 use Rattle.layout.specs.declared.answer.Grouped.{Grouped}
 use Rattle.layout.specs.declared.answer.Named.{Named}
@@ -18,11 +19,9 @@ use Rattle.layout.specs.declared.answer.Channelled.{Channelled}
 use Rattle.layout.specs.declared.answer.Standing.{Standing}
 use Rattle.layout.proofs.Bodies.{group_there}
 use Rattle.layout.proofs.Accepted.{body_accepted}
-use Rattle.read_find.specs.declared.Search.TheVariants.{Refused, Missing, Found}
-use Rattle.read_find.specs.declared.row.Sought.TheVariants.{Refused as No, At}
-use Rattle.read_find.specs.Find.{group_located, part_located}
-use Rattle.read_find.specs.Row.{sought}
-use Rattle.read_find.proofs.AskLaws.{There, of_refused, of_missing, of_found, group_there_is, part_there_is, part_stopped, part_ended, part_missed, part_asked}
+use Rattle.read_find.specs.Find.{Refused, Missing, Found, group_located, part_located, told}
+use Rattle.read_find.specs.Row.{Refused as No, At, sought}
+use Rattle.read_find.proofs.AskLaws.{There, told_refused, of_told, of_found, group_there_is, part_there_is, part_stopped, part_ended, part_missed, part_asked}
 use Rattle.read_find.proofs.RowLaws.{record_refused, record_there}
 
 -- ---- a body
@@ -43,13 +42,9 @@ module _ (s : List ℕ) (g : ℕ) where
   unfolding grouped number_of place_of value_or
   group_no_lem a b e = rw e
 
-  pub found_refused : (a b : ℕ) → group_located s g ≡ Refused a b → group_found s g ≡ refused a b
+  pub found_told : (why : Refusal) → told 16 (group_located s g) ≡ Err why → group_found s g ≡ refused why.number why.place
   unfolding group_found
-  found_refused a b h = of_refused s g (granted (standing s g)) a b h
-
-  pub found_missing : group_located s g ≡ Missing → group_found s g ≡ refused 16 0
-  unfolding group_found
-  found_missing h = of_missing s g (granted (standing s g)) h
+  found_told why h = of_told s g (granted (standing s g)) why h
 
   pub found_there : (k : ℕ) (x : Standing) → group_located s g ≡ Found k x → ◌≡◌ {A = Grouped} (record { number = 0; place = 0; group = x }) (grouped (group_found s g))
   unfolding grouped number_of place_of value_or group_found
@@ -71,6 +66,9 @@ module _ (s name : List ℕ) where
   pub part_missing : part_located s name ≡ Missing → part_found s name ≡ refused 15 0
   unfolding part_found after_run
   part_missing h = let r = part_ended s name h in rw (r.1.0, after_run) (part_missed s name (λ g. granted g) r.0 r.1.1)
+
+  pub part_told : (why : Refusal) → told 15 (part_located s name) ≡ Err why → part_found s name ≡ refused why.number why.place
+  part_told why h = told_refused 15 (part_located s name) (part_found s name) (λ a b q. part_refused a b q) (λ q. part_missing q) why h
 
   pub part_there : (k : ℕ) (x : Standing) → part_located s name ≡ Found k x → ◌≡◌ {A = Named} (record { number = 0; place = 0; group = k }) (named (part_found s name))
   unfolding named number_of place_of value_or part_found after_run
@@ -96,13 +94,9 @@ module _ (s : List ℕ) (g : ℕ) where
   unfolding part_of value_or
   text_none a b e = rw e
 
-  pub text_refused : (a b : ℕ) → group_located s g ≡ Refused a b → text_of s g ≡ refused a b
+  pub text_told : (why : Refusal) → told 16 (group_located s g) ≡ Err why → text_of s g ≡ refused why.number why.place
   unfolding text_of
-  text_refused a b h = of_refused s g _ a b h
-
-  pub text_missing : group_located s g ≡ Missing → text_of s g ≡ refused 16 0
-  unfolding text_of
-  text_missing h = of_missing s g _ h
+  text_told why h = of_told s g _ why h
 
   -- where the text stands, and how long it is
   stands_text : (x : Standing) → There s g x → (x.text ≡ group_place s g + 16) × (x.length ≡ word s (group_place s g + 12))
@@ -120,15 +114,3 @@ module _ (s : List ℕ) (g : ℕ) where
       let e = stands_text x there in
       let z : x.text + x.length - x.text ≡ x.length = omega arith in
       rw (of_found s g (granted (text_at s (group_place s g))) x there) (rw (z, e.0, e.1))
-
--- ---- the body of a section
-
-module _ (s : List ℕ) (tag l : ℕ) where
-  pub section_none : length s < tag + 8 → [] ≡ take l (drop (tag + 8) s)
-  section_none h = let k : length s ≤ tag + 8 = omega arith in sym (rw (drop_of_length-le s k) (take-nil l))
-
-  pub section_rest : length s - (tag + 8) < l → take (length s - (tag + 8)) (drop (tag + 8) s) ≡ take l (drop (tag + 8) s)
-  section_rest h = take_all (length s - (tag + 8)) (drop (tag + 8) s) (rw length-drop (omega arith)) ∙ sym (take_all l (drop (tag + 8) s) (rw length-drop (omega arith)))
-
-  pub section_part : take (tag + 8 + l - (tag + 8)) (drop (tag + 8) s) ≡ take l (drop (tag + 8) s)
-  section_part = let z : tag + 8 + l - (tag + 8) ≡ l = omega arith in rw z

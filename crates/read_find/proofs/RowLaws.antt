@@ -4,24 +4,23 @@ use native.Mathlib.Omega.{arith}
 use mathlib.Core.Path.{◌≡◌, refl, sym, ap, ◌∙◌}
 use mathlib.Core.Bool.{Bool, true, false, cond}
 use mathlib.Core.List.{List}
-use lib.Dec.{leb}
+use lib.Dec.{leb, ltb}
 use lib.ListN.{length}
-use borrow.Author.Tests.{le-leb, lt-leb, leb-false}
+use borrow.Author.Tests.{le-leb, lt-leb, leb-false, lt-ltb, le-ltb, ltb-true, ltb-false}
 use Rattle.layout.specs.Answers.{Answer, refused, granted, after_run}
 use Rattle.layout.specs.Group.{ctab_place, ctab_of}
 use Rattle.layout.specs.Body.{body_run}
 use Rattle.layout.specs.Asked.{Whereabouts, standing, of_group, row_of, row_in, of_channel, of_record, channel_found}
-use Rattle.layout.specs.declared.turn.Run.{Run}
-use Rattle.layout.specs.declared.turn.Run.TheVariants.{Stopped, Ended}
+use Rattle.layout.specs.Scan.{Run, Ended}
+use Rattle.layout.specs.declared.turn.Refusal.{Refusal}
 use Rattle.layout.specs.declared.answer.Standing.{Standing}
 use Rattle.layout.specs.declared.edition.Edition.{Edition}
 use Rattle.layout.specs.Editions.{size}
 use Rattle.layout.proofs.Ctabs.{place_before}
-use Rattle.read_find.specs.declared.Search.TheVariants.{Refused, Missing}
-use Rattle.read_find.specs.declared.row.Sought.TheVariants.{Refused as No, At}
-use Rattle.read_find.specs.Find.{group_located}
-use Rattle.read_find.specs.Row.{sought}
-use Rattle.read_find.proofs.AskLaws.{There, of_refused, of_missing, of_found, standing_within}
+use Rattle.read_find.specs.Find.{Refused, Missing, group_located, told}
+use Rattle.read_find.specs.Row.{Row, Refused as No, At, row_among, sought}
+use Rattle.read_find.proofs.AskLaws.{There, of_refused, of_missing, of_told, of_found, standing_within}
+use Rattle.std.specs.Prelude.{Some, None, Ok, Err}
 
 -- ---- the ways out
 
@@ -34,23 +33,56 @@ module _ (s : List ℕ) (g channel : ℕ) where
   unfolding channel_found sought
   row_missing h = rw (of_missing s g (of_channel s (standing s g) channel (λ row. granted row)) h)
 
+  pub row_told : (why : Refusal) → told 16 (group_located s g) ≡ Err why → Err why ≡ sought (channel_found s g channel)
+  unfolding channel_found sought
+  row_told why h = rw (of_told s g (of_channel s (standing s g) channel (λ row. granted row)) why h)
+
   -- a group that was found is asked for its record
   pub row_found : (x : Standing) → There s g x → sought (of_channel s x channel (λ row. granted row)) ≡ sought (channel_found s g channel)
   unfolding channel_found
   row_found x there = sym (ap sought (of_found s g _ x there ∙ ap (λ (y : Standing). of_channel s y channel (λ row. granted row)) there.stands))
 
-module _ (s : List ℕ) (x : Standing) (channel i : ℕ) (e : i ≡ ctab_of x.edition s x.ctabs x.records channel) where
-  asked : of_channel s x channel (λ row. granted row) ≡ cond (leb x.records i) (refused 15 0) (granted (row_of x i))
-  unfolding of_channel row_in
-  asked = rw e
+-- a number below n is row_among n, and n is not
+pub among_some : (n k : ℕ) → k < n → Some k ≡ row_among n k
+unfolding row_among
+among_some n k h = rw (lt-ltb k n h)
 
-  pub row_none : x.records ≤ i → No 15 0 ≡ sought (of_channel s x channel (λ row. granted row))
-  unfolding sought
-  row_none h = let q : of_channel s x channel (λ row. granted row) ≡ refused 15 0 = asked ∙ rw (le-leb x.records i h) in rw q
+pub among_none : (n : ℕ) → None ≡ row_among n n
+unfolding row_among
+among_none n = rw (le-ltb n n (omega arith))
 
-  pub row_there : i < x.records → At x.edition i (ctab_place x.edition x.ctabs i + 8) ≡ sought (of_channel s x channel (λ row. granted row))
-  unfolding sought
-  row_there h = let q : of_channel s x channel (λ row. granted row) ≡ granted (row_of x i) = asked ∙ rw (lt-leb x.records i h) in rw q
+-- .. so one that is among them is below n, and otherwise it is n or more
+some_among : (n k i : ℕ) → row_among n k ≡ Some i → (k ≡ i) × (k < n)
+unfolding row_among
+some_among n k i q = go (ltb k n) refl q
+  where
+    go : (b : Bool) → ltb k n ≡ b → cond b (Some k) None ≡ Some i → (k ≡ i) × (k < n)
+    go true h w = (cc, ltb-true k n h)
+    go false h w = absurd (let z : ◌≡◌ {A = ℕ} 0 1 = cc in omega arith)
+
+none_among : (n k : ℕ) → row_among n k ≡ None → n ≤ k
+unfolding row_among
+none_among n k q = go (ltb k n) refl q
+  where
+    go : (b : Bool) → ltb k n ≡ b → cond b (Some k) None ≡ None → n ≤ k
+    go true h w = absurd (let z : ◌≡◌ {A = ℕ} 0 1 = cc in omega arith)
+    go false h w = ltb-false k n h
+
+module _ (s : List ℕ) (x : Standing) (channel : ℕ) where
+  abbrev here : ℕ
+  here = ctab_of x.edition s x.ctabs x.records channel
+
+  pub row_none : row_among x.records here ≡ None → No 15 0 ≡ sought (of_channel s x channel (λ row. granted row))
+  unfolding of_channel row_in sought
+  row_none h = rw (le-leb x.records here (none_among x.records here h))
+
+  module _ (i : ℕ) (h : row_among x.records here ≡ Some i) where
+    pub row_below : i < x.records
+    row_below = let q = some_among x.records here i h in rw q.0 at q.1
+
+    pub row_there : At x.edition i (ctab_place x.edition x.ctabs i + 8) ≡ sought (of_channel s x channel (λ row. granted row))
+    unfolding of_channel row_in sought
+    row_there = let q = some_among x.records here i h in rw (lt-leb x.records here q.1, q.0)
 
 -- ---- what is asked of the record
 
@@ -78,15 +110,15 @@ module _ (s : List ℕ) (g channel : ℕ) where
         two false false = refl
 
         go : (r : Run) → after_run r (λ n. cond (leb n g) (refused 16 0) (cond lacks (refused 15 0) (ask found))) ≡ on_row ask (after_run r (λ n. cond (leb n g) (refused 16 0) (cond lacks (refused 15 0) (granted found))))
-        go (Stopped a b) = refl
-        go (Ended n) = two (leb n g) lacks
+        go (Err why) = refl
+        go (Ok n) = two (leb n g) lacks
 
     pub record_refused : (a b : ℕ) → sought (channel_found s g channel) ≡ No a b → of_record s g channel ask ≡ refused a b
     unfolding sought on_row
     record_refused a b h = of_row ∙ go (channel_found s g channel) h
       where
         go : (x : Answer Whereabouts) → sought x ≡ No a b → on_row ask x ≡ refused a b
-        go (refused c d) q = let y : c ≡ a = cc in let z : d ≡ b = cc in rw (y, z)
+        go (refused c d) q = let z : ◌≡◌ {A = Refusal} (record { number = c; place = d }) (record { number = a; place = b }) = cc in ap (λ (w : Refusal). refused w.number w.place) z
         go (granted r) q = absurd (let z : ◌≡◌ {A = ℕ} 0 1 = cc in omega arith)
 
     pub record_there : (e : Edition) (i at : ℕ) → sought (channel_found s g channel) ≡ At e i at → of_record s g channel ask ≡ ask (record { edition = e; index = i; at = at })
@@ -95,7 +127,9 @@ module _ (s : List ℕ) (g channel : ℕ) where
       where
         go : (x : Answer Whereabouts) → sought x ≡ At e i at → on_row ask x ≡ ask (record { edition = e; index = i; at = at })
         go (refused c d) q = absurd (let z : ◌≡◌ {A = ℕ} 0 1 = cc in omega arith)
-        go (granted r) q = let w : r.edition ≡ e = cc in let y : r.index ≡ i = cc in let z : r.at ≡ at = cc in rw (← w, ← y, ← z)
+        go (granted r) q =
+            let z : ◌≡◌ {A = Row} (record { edition = r.edition; row = r.index; at = r.at }) (record { edition = e; row = i; at = at }) = cc in
+            ap (λ (w : Row). ask (record { edition = w.edition; index = w.row; at = w.at })) z
 
   -- a record that was found stands within the body
   pub record_within : (f : Edition) (i at : ℕ) → sought (channel_found s g channel) ≡ At f i at → at + size f ≤ length s
@@ -106,8 +140,9 @@ module _ (s : List ℕ) (g channel : ℕ) where
       there n e true b u v q = absurd (let z : ◌≡◌ {A = ℕ} 0 1 = cc in omega arith)
       there n e false true u v q = absurd (let z : ◌≡◌ {A = ℕ} 0 1 = cc in omega arith)
       there n e false false u v q =
-          let y : found.at ≡ at = cc in
-          let w : (standing s g).edition ≡ f = cc in
+          let z : ◌≡◌ {A = Row} (record { edition = found.edition; row = found.index; at = found.at }) (record { edition = f; row = i; at = at }) = cc in
+          let y : found.at ≡ at = ap (λ (w : Row). w.at) z in
+          let w : (standing s g).edition ≡ f = ap (λ (w : Row). w.edition) z in
           rw (← w)
           (omega (
             arith,
@@ -117,5 +152,5 @@ module _ (s : List ℕ) (g channel : ℕ) where
           ))
 
       go : (r : Run) → body_run s ≡ r → sought (after_run r (λ n. cond (leb n g) (refused 16 0) (cond lacks (refused 15 0) (granted found)))) ≡ At f i at → at + size f ≤ length s
-      go (Stopped a b) e q = absurd (let z : ◌≡◌ {A = ℕ} 0 1 = cc in omega arith)
-      go (Ended n) e q = there n e (leb n g) lacks refl refl q
+      go (Err why) e q = absurd (let z : ◌≡◌ {A = ℕ} 0 1 = cc in omega arith)
+      go (Ok n) e q = there n e (leb n g) lacks refl refl q

@@ -6,13 +6,15 @@ use native.Mathlib.Numerals.{add-one}
 use mathlib.Core.Path.{◌≡◌, refl, sym, ap, ◌∙◌}
 use mathlib.Core.Bool.{Bool, true, false, cond}
 use mathlib.Core.List.{List}
+use Rattle.std.specs.Int.{from_bool}
 use lib.Dec.{ltb}
 use lib.ListN.{length, take, drop, length-take, length-drop}
 use borrow.Author.Tests.{lt-ltb, le-ltb, lt-leb, le-leb}
 use Rattle.layout.specs.Scan.{first}
-use Rattle.layout.specs.Bytes.{word, tag_at, tagged, CSEG}
+use Rattle.layout.specs.Bytes.{word, four, tag_at, tagged, CSEG}
 use Rattle.layout.specs.Answers.{refused, granted, number_of, place_of, value_or}
 use Rattle.layout.specs.Chunks.{step_at, chunk_place, chunk_of, groups_among, child_no, site_no, site_of, sited}
+use Rattle.layout.proofs.Groups.{cseg_tag}
 use Rattle.layout.proofs.Scans.{first_end, first_here, first_next}
 use Rattle.layout.proofs.Same.{same_is}
 
@@ -47,6 +49,10 @@ module _ (s : List ℕ) (at : ℕ) where
       go true = omega arith
       go false = omega arith
 
+  -- whether it begins a group
+  pub begun : (b : Bool) → b ≡ tagged s at (four 0x43534547) → b ≡ tagged s at CSEG
+  begun b e = rw cseg_tag at e
+
   -- from its tag and its length
   pub step_is : (b : Bool) (l step : ℕ) → b ≡ tagged s at CSEG → l ≡ word s (at + 4) → step ≡ cond b 8 (8 + l) → step ≡ step_at s at
   unfolding step_at
@@ -54,17 +60,9 @@ module _ (s : List ℕ) (at : ℕ) where
 
 -- ---- the counts
 
-pub counted_group : (b : Bool) (groups : ℕ) → b ≡ true → groups + 1 ≡ groups + cond b 1 0
-counted_group b groups h = rw h
-
-pub counted_none : (b : Bool) (groups : ℕ) → b ≡ false → groups ≡ groups + cond b 1 0
-counted_none b groups h = rw h (omega arith)
-
-pub rank_group : (b : Bool) (rank : ℕ) → b ≡ true → 1 ≡ cond b 0 rank + 1
-rank_group b rank h = rw h
-
-pub rank_more : (b : Bool) (rank : ℕ) → b ≡ false → rank + 1 ≡ cond b 0 rank + 1
-rank_more b rank h = rw h
+pub one_for : (b : Bool) → from_bool b ≡ cond b 1 0
+one_for true = refl
+one_for false = refl
 
 pub rank_most : (b : Bool) (rank : ℕ) → cond b 0 rank ≤ rank
 rank_most true rank = omega arith

@@ -7,133 +7,118 @@ pub mod site;
 
 ghost use Rattle.std.specs.Prelude.{◌≡◌, ◌+◌, ◌≤◌, length, drop};
 ghost use Rattle.layout.specs.Bytes.{word};
-ghost use Rattle.layout.specs.Group.{group_at};
+ghost use Rattle.layout.specs.Group.{Sound, group_at};
 ghost use Rattle.layout.specs.Body.{body_run};
 ghost use Rattle.layout.specs.Asked.{standing_at};
-ghost use Rattle.layout.specs.declared.turn.Judged.TheVariants.{Sound};
-ghost use Rattle.read_met.specs.Before.{Places};
-ghost use Rattle.read_body.specs.Known.{edition_with, Insides};
-ghost use Rattle.read_find.specs.Find.{numbered, group_located, part_located};
+ghost use Rattle.layout.specs.Refusals.{bad_number};
+ghost use Rattle.read_body.specs.Known.{edition_with, Entered};
+ghost use Rattle.read_find.specs.Find.{numbered, group_located, part_located, told};
 
 use layout::answer::Standing;
 use layout::edition::Edition;
-use layout::limit::GROUPS;
+use layout::refusal::BAD_NUMBER;
 use layout::size::HEADERS;
-use layout::turn::Run;
+use layout::turn::{Refusal, Run};
+use read_body::groups::Groups;
 use read_body::survey::read_groups;
 use read_record::edition::ctab_place;
 
-// What looking for a group comes to.
+// A group that was found: its number, and where it and its parts stand.
 #[derive(Clone, Copy)]
-pub enum Search {
-    // The body is refused: the number and the place.
-    Refused(u8, usize),
-    // The body has no such group.
-    Missing,
-    // Its number, and where it and its parts stand.
-    Found(usize, Standing),
+pub struct Stands {
+    pub group: usize,
+    pub standing: Standing,
 }
 
+// What looking for a group comes to: where the body is accepted, the group, if it has it.
+pub type Search = Result<Option<Stands>, Refusal>;
+
 // The edition of a group of so many records in a body of an edition.
-fn edition_with(body: Edition, records: u8) -> Edition
-    ensures { result ≡ edition_with body records }
+fn edition_with(body: Option<Edition>, ctabs: u8) -> Edition
+    ensures { result ≡ edition_with body ctabs }
 {
-    if records == 0 {
+    if ctabs == 0 {
         return Edition::First;
     }
-    body
+    body.unwrap_or(Edition::First)
 }
 
 // Where the parts of the group at `at` stand, which is of an edition and has so many Ctabs and Cntts.
-fn standing_at(s: &[u8], at: usize, edition: Edition, records: u8, seconds: u8) -> Standing
-    requires { (at ≤ length s.now) × (group_at (drop at s.now) ≡ Sound edition (word s.now (at + 12)) records seconds) }
+fn standing_at(s: &[u8], at: usize, edition: Edition, ctabs: u8, cntts: u8) -> Standing
+    requires { (at ≤ length s.now) × (group_at (drop at s.now) ≡ Sound edition (word s.now (at + 12)) ctabs cntts) }
     ensures { result ≡ standing_at s.now at (group_at (drop at s.now)) }
 {
     let length = read_bytes::word_at(s, at + 12);
-    let ctabs = at + HEADERS + length;
-    let n = records as usize;
+    let start = at + HEADERS + length;
+    let records = ctabs as usize;
     Standing {
-        edition: edition,
-        at: at,
+        edition,
+        at,
         size: 8 + read_bytes::word_at(s, at + 4),
         text: at + HEADERS,
-        length: length,
-        ctabs: ctabs,
-        records: n,
-        cntts: ctab_place(edition, s, ctabs, n),
-        seconds: seconds as usize,
+        length,
+        ctabs: start,
+        records,
+        cntts: ctab_place(edition, s, start, records),
+        seconds: cntts as usize,
     }
 }
 
-// Group number k of n, by the tables of what is known of them.
-fn group_numbered<'a>(
-    s: &[u8],
-    n: usize,
-    body: Edition,
-    places: &'a [u16; GROUPS],
-    records: &'a [u8; GROUPS],
-    seconds: &'a [u8; GROUPS],
-    k: usize,
-) -> Search
-    requires { (n ≤ 32) × (Places s.now n places.now × Insides s.now n records.now seconds.now body) }
-    ensures { result ≡ numbered s.now n k }
+// Group number k of those in the tables.
+fn group_numbered(s: &[u8], groups: &Groups, k: usize) -> Option<Stands>
+    requires { Entered s.now groups.now.count groups.now }
+    ensures { Ok result ≡ numbered s.now groups.now.count k }
 {
-    if n <= k {
-        return Search::Missing;
+    if groups.count <= k {
+        return None;
     }
-    let edition = edition_with(body, records[k]);
+    let counts = groups.counts[k];
     let standing = standing_at(
         s,
-        read_met::wide(places[k]),
-        edition,
-        records[k],
-        seconds[k],
+        read_met::wide(groups.places[k]),
+        edition_with(groups.edition, counts.ctabs),
+        counts.ctabs,
+        counts.cntts,
     );
-    Search::Found(k, standing)
+    Some(Stands { group: k, standing })
 }
 
 // The run of a body's groups, where none of them is asked for.
 pub fn run_body(s: &[u8]) -> Run
     ensures { result ≡ body_run s.now }
 {
-    let mut places: [u16; GROUPS] = [0; GROUPS];
-    let mut records: [u8; GROUPS] = [0; GROUPS];
-    let mut seconds: [u8; GROUPS] = [0; GROUPS];
-    let read = read_groups(s, &mut places, &mut records, &mut seconds);
-    read.run
+    read_groups(s, &mut Groups::none())
 }
 
 // A group by its number.
 pub fn locate_group(s: &[u8], group: usize) -> Search
     ensures { result ≡ group_located s.now group }
 {
-    let mut places: [u16; GROUPS] = [0; GROUPS];
-    let mut records: [u8; GROUPS] = [0; GROUPS];
-    let mut seconds: [u8; GROUPS] = [0; GROUPS];
-    let read = read_groups(s, &mut places, &mut records, &mut seconds);
-    let edition = read.edition;
-    let run = read.run;
-    match run {
-        Run::Stopped(number, place) => Search::Refused(number, place),
-        Run::Ended(n) => group_numbered(s, n, edition, &places, &records, &seconds, group),
-    }
+    let mut groups = Groups::none();
+    read_groups(s, &mut groups)?;
+    Ok(group_numbered(s, &groups, group))
 }
 
 // A group by the name of a part.
 pub fn locate_part(s: &[u8], name: &[u8]) -> Search
     ensures { result ≡ part_located s.now name.now }
 {
-    let mut places: [u16; GROUPS] = [0; GROUPS];
-    let mut records: [u8; GROUPS] = [0; GROUPS];
-    let mut seconds: [u8; GROUPS] = [0; GROUPS];
-    let read = read_groups(s, &mut places, &mut records, &mut seconds);
-    let edition = read.edition;
-    let run = read.run;
-    match run {
-        Run::Stopped(number, place) => Search::Refused(number, place),
-        Run::Ended(n) => {
-            let k = read_met::group_named(s, n, &places, name);
-            group_numbered(s, n, edition, &places, &records, &seconds, k)
-        }
-    }
+    let mut groups = Groups::none();
+    let n = read_groups(s, &mut groups)?;
+    let k = read_met::group_named(s, n, &groups.places, name);
+    Ok(group_numbered(s, &groups, k))
+}
+
+// The group that was looked for; where the body has no such group, that is refused with a number.
+pub fn found_or(search: Search, number: u8) -> Result<Stands, Refusal>
+    ensures { result ≡ told number search }
+{
+    search?.ok_or(Refusal { number, place: 0 })
+}
+
+// The group that is asked for by its number: 16 where the body has no such group.
+pub fn asked_group(s: &[u8], group: usize) -> Result<Stands, Refusal>
+    ensures { result ≡ told bad_number (group_located s.now group) }
+{
+    found_or(locate_group(s, group), BAD_NUMBER)
 }

@@ -1,15 +1,15 @@
 // What is looked up in a file or a body (document 01, "Numbers of refusal": after the body): a section's body, the groups of a body, a part, a channel, a group's text.
+// An answer carries its number and place as fields, since the promises and the C calls speak of them so: each is made of a Result here.
 ghost use Rattle.std.specs.Prelude.{◌≡◌};
 ghost use Rattle.layout.specs.Answers.{nowhere};
 ghost use Rattle.layout.specs.Promises.{SectionShown, BodyRead, GroupFound, PartFound, ChannelFound, TextShown};
 
-use crate::Search;
-use crate::row::{Sought, find_record};
+use crate::row::find_record;
+use crate::{asked_group, found_or, locate_part, run_body};
 use layout::answer::{Channelled, Counted, Grouped, Named, Standing};
 use layout::edition::Edition;
 use layout::record::SourceChannel;
-use layout::refusal::{BAD_NUMBER, NOT_THERE};
-use layout::turn::Run;
+use layout::refusal::NOT_THERE;
 
 // The body of a section whose tag stands at `tag`, where it lies; what of it is past the file's end is left off.
 pub fn section_body<'a>(file: &'a [u8], tag: usize, length: usize) -> &'a [u8]
@@ -33,13 +33,13 @@ pub fn section_body<'a>(file: &'a [u8], tag: usize, length: usize) -> &'a [u8]
 pub fn read_body(s: &[u8]) -> Counted
     ensures { BodyRead s.now result }
 {
-    match crate::run_body(s) {
-        Run::Stopped(number, place) => Counted {
-            number: number,
-            place: place,
+    match run_body(s) {
+        Err(why) => Counted {
+            number: why.number,
+            place: why.place,
             count: 0,
         },
-        Run::Ended(n) => Counted {
+        Ok(n) => Counted {
             number: 0,
             place: 0,
             count: n,
@@ -68,21 +68,16 @@ fn no_standing() -> Standing
 pub fn find_group(s: &[u8], group: usize) -> Grouped
     ensures { GroupFound s.now group result }
 {
-    match crate::locate_group(s, group) {
-        Search::Refused(number, place) => Grouped {
-            number: number,
-            place: place,
+    match asked_group(s, group) {
+        Err(why) => Grouped {
+            number: why.number,
+            place: why.place,
             group: no_standing(),
         },
-        Search::Missing => Grouped {
-            number: BAD_NUMBER,
-            place: 0,
-            group: no_standing(),
-        },
-        Search::Found(_, standing) => Grouped {
+        Ok(found) => Grouped {
             number: 0,
             place: 0,
-            group: standing,
+            group: found.standing,
         },
     }
 }
@@ -91,21 +86,16 @@ pub fn find_group(s: &[u8], group: usize) -> Grouped
 pub fn find_part(s: &[u8], name: &[u8]) -> Named
     ensures { PartFound s.now name.now result }
 {
-    match crate::locate_part(s, name) {
-        Search::Refused(number, place) => Named {
-            number: number,
-            place: place,
+    match found_or(locate_part(s, name), NOT_THERE) {
+        Err(why) => Named {
+            number: why.number,
+            place: why.place,
             group: 0,
         },
-        Search::Missing => Named {
-            number: NOT_THERE,
-            place: 0,
-            group: 0,
-        },
-        Search::Found(k, _) => Named {
+        Ok(found) => Named {
             number: 0,
             place: 0,
-            group: k,
+            group: found.group,
         },
     }
 }
@@ -115,17 +105,17 @@ pub fn find_channel(s: &[u8], group: usize, channel: SourceChannel) -> Channelle
     ensures { ChannelFound s.now group channel.0 result }
 {
     match find_record(s, group, channel) {
-        Sought::Refused(number, place) => Channelled {
-            number: number,
-            place: place,
+        Err(why) => Channelled {
+            number: why.number,
+            place: why.place,
             row: 0,
             at: 0,
         },
-        Sought::At(_, row, at) => Channelled {
+        Ok(found) => Channelled {
             number: 0,
             place: 0,
-            row: row,
-            at: at,
+            row: found.row,
+            at: found.at,
         },
     }
 }
@@ -134,12 +124,11 @@ pub fn find_channel(s: &[u8], group: usize, channel: SourceChannel) -> Channelle
 pub fn group_text<'a>(s: &'a [u8], group: usize) -> &'a [u8]
     ensures { TextShown s.now group result.now }
 {
-    match crate::locate_group(s, group) {
-        Search::Refused(_, _) => &s[0..0],
-        Search::Missing => &s[0..0],
-        Search::Found(_, x) => {
-            let start = x.text;
-            let end = start + x.length;
+    match asked_group(s, group) {
+        Err(_) => &s[0..0],
+        Ok(found) => {
+            let start = found.standing.text;
+            let end = start + found.standing.length;
             &s[start..end]
         }
     }

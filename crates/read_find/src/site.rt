@@ -21,11 +21,12 @@ fn is_group(s: &[u8], at: usize) -> bool
     read_bytes::is_tagged(s, at, CSEG)
 }
 
+// The answer that refuses.
 fn refusal(number: u8) -> Sited
     ensures { result ≡ sited (refused number 0) }
 {
     Sited {
-        number: number,
+        number,
         place: 0,
         group: 0,
         child: 0,
@@ -43,17 +44,6 @@ fn step_of(begins: bool, whole: usize) -> usize
     whole
 }
 
-// How many groups began, with a chunk that begins one or not, where so many began before it.
-fn groups_with(begins: bool, groups: usize) -> usize
-    requires { groups ≤ 32768 }
-    ensures { result ≡ groups + cond begins 1 0 }
-{
-    if begins {
-        return groups + 1;
-    }
-    groups
-}
-
 // The number in its group of a chunk that begins one or not: a group's header is number 0.
 fn child_of(begins: bool, rank: usize) -> usize
     ensures { result ≡ cond begins 0 rank }
@@ -62,28 +52,6 @@ fn child_of(begins: bool, rank: usize) -> usize
         return 0;
     }
     rank
-}
-
-// The number that the chunk behind one has in its group, unless it begins one itself.
-fn rank_behind(begins: bool, rank: usize) -> usize
-    requires { rank ≤ 32768 }
-    ensures { result ≡ cond begins 0 rank + 1 }
-{
-    let next = rank + 1;
-    if begins {
-        return 1;
-    }
-    next
-}
-
-// The number of the last of so many groups, and 0 where there is none.
-fn last_of(groups: usize) -> usize
-    ensures { result ≡ groups - 1 }
-{
-    if 0 < groups {
-        return groups - 1;
-    }
-    0
 }
 
 // What is told of the chunk at `at`, where so many groups began before it and it has this number in its group, unless it begins one.
@@ -95,20 +63,19 @@ fn told(s: &[u8], at: usize, groups: usize, rank: usize) -> Sited
     Sited {
         number: 0,
         place: 0,
-        group: last_of(groups_with(begins, groups)),
+        group: (groups + usize::from(begins)).saturating_sub(1),
         child: child_of(begins, rank),
         chunk: at,
     }
 }
 
-// The chunk that has a place, from chunk to chunk; the one at `at` is number n. A place within 8 bytes of a chunk's beginning is in that chunk; where it is not, all of the header is there.
+// The chunk that has a place, from chunk to chunk. A place within 8 bytes of a chunk's beginning is in that chunk; where it is not, all of the header is there.
 // So each chunk that is passed over is asked once for its tag and once for its length.
 fn walk(s: &[u8], place: usize) -> Sited
     requires { (place < length s.now) × (length s.now ≤ 32768) }
     ensures { result ≡ sited (granted (site_no s.now (chunk_of s.now place))) }
 {
     let mut at: usize = 0;
-    let mut n: usize = 0;
     let mut groups: usize = 0;
     let mut rank: usize = 0;
     while 8 <= place - at {
@@ -119,9 +86,8 @@ fn walk(s: &[u8], place: usize) -> Sited
             return told(s, at, groups, rank);
         }
         at += step;
-        groups = groups_with(begins, groups);
-        rank = rank_behind(begins, rank);
-        n += 1;
+        groups += usize::from(begins);
+        rank = child_of(begins, rank) + 1;
     }
     told(s, at, groups, rank)
 }

@@ -5,7 +5,7 @@ use mathlib.Core.Bool.{Bool, true}
 use mathlib.Core.List.{List}
 use lib.Dec.{ltb}
 use lib.ListN.{length, get_or, set}
-use Rattle.layout.specs.declared.turn.Run.TheVariants.{Ended}
+use Rattle.layout.specs.Scan.{Ended}
 use Rattle.layout.specs.declared.edition.Edition.{Edition}
 use Rattle.layout.specs.Group.{ctab_place, ctab_channel, ctab_of}
 use Rattle.layout.proofs.Runs.{ended_once}

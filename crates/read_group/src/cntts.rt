@@ -2,25 +2,32 @@
 ghost use Rattle.std.specs.Prelude.{◌≡◌, ◌+◌, ◌*◌, ◌≤◌, length};
 ghost use Rattle.layout.specs.declared.edition.Edition.TheVariants.{First};
 ghost use Rattle.layout.specs.Group.{ctab_place, ctab_channel, cntt_channel, cntt_turn, cntts_of};
+ghost use Rattle.read_bytes.specs.Heads.{headed};
 ghost use Rattle.read_group.specs.Seen.{Seen, channel_fault};
 
 use layout::limit::CHANNELS;
 use layout::refusal::{BAD_SIZE, CHANNEL_AGAIN, OUT_OF_RANGE, STRAY_CNTT};
 use layout::size::{CNTT_BYTES, CNTT_STRIDE, CTAB_STRIDE};
 use layout::tag::CNTT;
-use layout::turn::{Run, Turn};
+use layout::turn::{Met, Refusal, Run, Turn};
 
-// The refusal of a Cntt by whether a Ctab has its channel and whether a Cntt before it has; 0 where there is none.
-fn channel_fault(ctab: bool, again: bool) -> u8
-    ensures { result ≡ channel_fault ctab again }
+// The refusal of a Cntt at `at` by whether a Ctab has its channel and whether a Cntt before it has.
+fn check_channel(at: usize, ctab: bool, again: bool) -> Result<(), Refusal>
+    ensures { result ≡ headed (channel_fault ctab again) at }
 {
     if again {
-        return CHANNEL_AGAIN;
+        return Err(Refusal {
+            number: CHANNEL_AGAIN,
+            place: at,
+        });
     }
     if !ctab {
-        return STRAY_CNTT;
+        return Err(Refusal {
+            number: STRAY_CNTT,
+            place: at,
+        });
     }
-    0
+    Ok(())
 }
 
 // Cntt number j, after n Ctabs from p on.
@@ -37,44 +44,43 @@ fn cntt_turn(
 {
     let at = p + CTAB_STRIDE * n + CNTT_STRIDE * j;
     if at == c.len() {
-        return Turn::Done;
+        return Ok(Met::End);
     }
-    let h = read_bytes::head_fault(c, at, CNTT);
-    if h != 0 {
-        return Turn::Refused(h, at);
-    }
+    read_bytes::check_head(c, at, CNTT)?;
     if read_bytes::word_at(c, at + 4) != CNTT_BYTES {
-        return Turn::Refused(BAD_SIZE, at);
+        return Err(Refusal {
+            number: BAD_SIZE,
+            place: at,
+        });
     }
     let channel = read_bytes::byte(c, at + 8);
     if 15 < channel {
-        return Turn::Refused(OUT_OF_RANGE, at + 8);
+        return Err(Refusal {
+            number: OUT_OF_RANGE,
+            place: at + 8,
+        });
     }
     if !read_ranges::is_cntt_value(read_bytes::byte(c, at + 9)) {
-        return Turn::Refused(OUT_OF_RANGE, at + 9);
+        return Err(Refusal {
+            number: OUT_OF_RANGE,
+            place: at + 9,
+        });
     }
-    let fault = channel_fault(ctabs[channel], seen[channel]);
-    if fault != 0 {
-        return Turn::Refused(fault, at);
-    }
-    Turn::More
+    check_channel(at, ctabs[channel], seen[channel])?;
+    Ok(Met::Chunk)
 }
 
-// The Cntts after n Ctabs from p on.
+// The Cntts after n Ctabs from p on: how many.
 pub fn read_cntts(c: &[u8], p: usize, n: usize, ctabs: &[bool; CHANNELS]) -> Run
     requires { (ctab_place First p n ≤ length c.now) × Seen (ctab_channel First c.now p) n ctabs.now }
     ensures { result ≡ cntts_of c.now p n }
 {
-    let mut seen: [bool; CHANNELS] = [false; CHANNELS];
-    let mut j: usize = 0;
-    loop {
-        match cntt_turn(c, p, n, j, ctabs, &seen) {
-            Turn::Refused(number, place) => return Run::Stopped(number, place),
-            Turn::Done => return Run::Ended(j),
-            Turn::More => {}
-        }
+    let mut seen = [false; CHANNELS];
+    let mut j = 0;
+    while let Met::Chunk = cntt_turn(c, p, n, j, ctabs, &seen)? {
         let channel = read_bytes::byte(c, p + CTAB_STRIDE * n + CNTT_STRIDE * j + 8);
         seen[channel] = true;
         j += 1;
     }
+    Ok(j)
 }

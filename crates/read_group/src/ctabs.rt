@@ -8,14 +8,14 @@ use layout::edition::Edition;
 use layout::limit::CHANNELS;
 use layout::refusal::{BAD_SIZE, CHANNEL_AGAIN, OUT_OF_RANGE};
 use layout::tag::CNTT;
-use layout::turn::{Run, Turn};
+use layout::turn::{Met, Refusal, Turn};
 use read_ranges::first_out;
 use read_record::edition::{ctab_place, size_of, tag_of};
 
-// The run, and for each source channel whether one of its Ctabs has it.
+// How many Ctabs there are, and for each source channel whether one of them has it.
 #[derive(Clone, Copy)]
 pub struct Ctabs {
-    pub run: Run,
+    pub count: usize,
     pub seen: [bool; CHANNELS],
 }
 
@@ -41,51 +41,43 @@ fn ctab_turn(edition: Edition, c: &[u8], p: usize, n: usize, seen: &[bool; CHANN
     let size = size_of(edition);
     let at = ctab_place(edition, c, p, n);
     if is_over(c, at) {
-        return Turn::Done;
+        return Ok(Met::End);
     }
-    let h = read_bytes::head_fault(c, at, tag_of(edition));
-    if h != 0 {
-        return Turn::Refused(h, at);
-    }
+    read_bytes::check_head(c, at, tag_of(edition))?;
     if read_bytes::word_at(c, at + 4) != size {
-        return Turn::Refused(BAD_SIZE, at);
+        return Err(Refusal {
+            number: BAD_SIZE,
+            place: at,
+        });
     }
     let k = first_out(edition, c, at + 8);
     if k < size {
-        return Turn::Refused(OUT_OF_RANGE, at + 8 + k);
+        return Err(Refusal {
+            number: OUT_OF_RANGE,
+            place: at + 8 + k,
+        });
     }
     let channel = read_bytes::byte(c, at + 8);
     if seen[channel] {
-        return Turn::Refused(CHANNEL_AGAIN, at);
+        return Err(Refusal {
+            number: CHANNEL_AGAIN,
+            place: at,
+        });
     }
-    Turn::More
+    Ok(Met::Chunk)
 }
 
 // The Ctabs of an edition from p on.
-pub fn read_ctabs(edition: Edition, c: &[u8], p: usize) -> Ctabs
+pub fn read_ctabs(edition: Edition, c: &[u8], p: usize) -> Result<Ctabs, Refusal>
     requires { p ≤ length c.now }
     ensures { CtabsRead edition c.now p result }
 {
-    let mut seen: [bool; CHANNELS] = [false; CHANNELS];
-    let mut n: usize = 0;
-    loop {
-        match ctab_turn(edition, c, p, n, &seen) {
-            Turn::Refused(number, place) => {
-                return Ctabs {
-                    run: Run::Stopped(number, place),
-                    seen: seen,
-                };
-            }
-            Turn::Done => {
-                return Ctabs {
-                    run: Run::Ended(n),
-                    seen: seen,
-                };
-            }
-            Turn::More => {}
-        }
+    let mut seen = [false; CHANNELS];
+    let mut n = 0;
+    while let Met::Chunk = ctab_turn(edition, c, p, n, &seen)? {
         let channel = read_bytes::byte(c, ctab_place(edition, c, p, n) + 8);
         seen[channel] = true;
         n += 1;
     }
+    Ok(Ctabs { count: n, seen })
 }

@@ -7,7 +7,7 @@ pub mod ctabs;
 ghost use Rattle.std.specs.Prelude.{◌≡◌, ◌+◌, ◌≤◌, length};
 ghost use Rattle.layout.specs.Bytes.{CSEG as Cseg};
 ghost use Rattle.layout.specs.Group.{head_fault, ctab_place, ctab_channel, after_ctabs, edition_at, contents, group_at};
-ghost use Rattle.layout.specs.declared.turn.Run.TheVariants.{Ended};
+ghost use Rattle.layout.specs.Scan.{Ended};
 ghost use Rattle.read_group.specs.Seen.{Seen};
 
 use crate::cntts::read_cntts;
@@ -16,7 +16,7 @@ use layout::edition::Edition;
 use layout::limit::CHANNELS;
 use layout::refusal::{BAD_TAG, BAD_TEXT};
 use layout::tag::{CSEG, CTB2, SDEC};
-use layout::turn::{Judged, Run};
+use layout::turn::{Inside, Judged, Refusal};
 use read_record::edition::ctab_place;
 
 // The edition of the records from p on, by the tag that stands there.
@@ -45,16 +45,29 @@ fn judge_behind(
     ensures { result ≡ after_ctabs edition c.now text (Ended n) }
 {
     match edition {
-        Edition::First => match read_cntts(c, 8 + text, n, seen) {
-            Run::Stopped(number, place) => Judged::Unsound(number, place),
-            Run::Ended(m) => Judged::Sound(Edition::First, text, n, m),
-        },
+        Edition::First => {
+            let m = read_cntts(c, 8 + text, n, seen)?;
+            Ok(Inside {
+                edition,
+                text,
+                ctabs: n,
+                cntts: m,
+            })
+        }
         Edition::Second => {
             let at = ctab_place(Edition::Second, c, 8 + text, n);
             if at != c.len() {
-                return Judged::Unsound(BAD_TAG, at);
+                return Err(Refusal {
+                    number: BAD_TAG,
+                    place: at,
+                });
             }
-            Judged::Sound(Edition::Second, text, n, 0)
+            Ok(Inside {
+                edition,
+                text,
+                ctabs: n,
+                cntts: 0,
+            })
         }
     }
 }
@@ -63,23 +76,18 @@ fn judge_behind(
 pub fn judge_contents(c: &[u8]) -> Judged
     ensures { result ≡ contents c.now }
 {
-    let h = read_bytes::head_fault(c, 0, SDEC);
-    if h != 0 {
-        return Judged::Unsound(h, 0);
-    }
+    read_bytes::check_head(c, 0, SDEC)?;
     let text = read_bytes::word_at(c, 4);
     let p = 8 + text;
     if !read_names::is_sound_text(&c[8..p]) {
-        return Judged::Unsound(BAD_TEXT, 0);
+        return Err(Refusal {
+            number: BAD_TEXT,
+            place: 0,
+        });
     }
     let edition = edition_at(c, p);
-    let read = read_ctabs(edition, c, p);
-    let seen = read.seen;
-    let run = read.run;
-    match run {
-        Run::Stopped(number, place) => Judged::Unsound(number, place),
-        Run::Ended(n) => judge_behind(edition, c, text, n, &seen),
-    }
+    let ctabs = read_ctabs(edition, c, p)?;
+    judge_behind(edition, c, text, ctabs.count, &ctabs.seen)
 }
 
 // A group whose header is without fault, at the start of its parent's bytes.
@@ -89,12 +97,18 @@ pub fn judge_headed(p: &[u8]) -> Judged
 {
     let length = read_bytes::word_at(p, 4);
     if length == 0 {
-        return Judged::Unsound(BAD_TAG, 0);
+        return Err(Refusal {
+            number: BAD_TAG,
+            place: 0,
+        });
     }
     let end = 8 + length;
     match judge_contents(&p[8..end]) {
-        Judged::Unsound(number, place) => Judged::Unsound(number, 8 + place),
-        Judged::Sound(edition, text, n, m) => Judged::Sound(edition, text, n, m),
+        Ok(inside) => Ok(inside),
+        Err(why) => Err(Refusal {
+            number: why.number,
+            place: 8 + why.place,
+        }),
     }
 }
 
@@ -102,9 +116,6 @@ pub fn judge_headed(p: &[u8]) -> Judged
 pub fn judge_group(p: &[u8]) -> Judged
     ensures { result ≡ group_at p.now }
 {
-    let h = read_bytes::head_fault(p, 0, CSEG);
-    if h != 0 {
-        return Judged::Unsound(h, 0);
-    }
+    read_bytes::check_head(p, 0, CSEG)?;
     judge_headed(p)
 }

@@ -4,9 +4,8 @@ use native.Mathlib.Omega.{arith}
 use native.Mathlib.Decide.{dec_lt}
 use mathlib.Core.Path.{◌≡◌, refl, sym, ap, ◌∙◌}
 use mathlib.Core.Bool.{Bool, true, false, cond, false≢true}
-use mathlib.Core.List.{List}
+use mathlib.Core.List.{List, [], ◌∷◌}
 use lib.Dec.{ltb}
-use lib.ListN.{length}
 use Rattle.layout.specs.Lists.{same, has, any}
 use Rattle.layout.specs.Scan.{first}
 use Rattle.layout.specs.Sdec.{names}
@@ -14,24 +13,21 @@ use Rattle.layout.specs.Body.{group_place, text_at}
 use Rattle.layout.specs.Asked.{group_named}
 use Rattle.layout.proofs.Same.{same_is}
 use Rattle.layout.proofs.Scans.{first_within, first_grown}
-use Rattle.read_names.specs.Parts.{part, names_from, Ends}
 use Rattle.read_names.specs.Marks.{mark}
-use Rattle.read_names.proofs.Cuts.{names_start, names_end}
-use Rattle.read_names.proofs.Compare.{has_cut, has_none, any_cut, any_none}
+use Rattle.read_met.specs.declared.table.Share.{Share}
 use Rattle.read_met.specs.Table.{met, Meeting, looked_at}
 use Rattle.read_met.specs.Before.{Marks, taken, taken_in, again_in, NameMet, NamedBefore}
 use Rattle.read_met.proofs.Naming.{has_part, named_start}
 
 -- ---- one name
 
-module _ (s : List ℕ) (n share : ℕ) (name table : List ℕ) (m : ℕ) (e : m ≡ mark name) where
+module _ (s : List ℕ) (n : ℕ) (share : Share) (name table : List ℕ) (m : ℕ) (e : m ≡ mark name) where
   -- not of the share looked at
   pub name_skipped : looked_at share m ≡ false → NameMet s n share name false table table
   unfolding taken_in
   name_skipped h =
       record {
         answer = rw (← e, h);
-        size = refl;
         here = λ l. absurd (false≢true (sym h ∙ rw (← e) at l));
         kept = λ other l. l;
       }
@@ -39,7 +35,7 @@ module _ (s : List ℕ) (n share : ℕ) (name table : List ℕ) (m : ℕ) (e : m
   module _ (h : looked_at share m ≡ true) (new : List ℕ) (r : Bool) (meets : Meeting table new m r) where
     pub name_asked : (b : Bool) → b ≡ ltb (group_named s n name) n → NameMet s n share name b table new
     unfolding taken_in taken
-    name_asked b q = record { answer = rw (← e, h) q; size = meets.size; here = λ l. rw (← e) meets.here; kept = meets.kept }
+    name_asked b q = record { answer = rw (← e, h) q; here = λ l. rw (← e) meets.here; kept = meets.kept }
 
     -- one that was not met is no name of the n groups
     pub unmet_new : Marks s n share table → r ≡ false → n ≤ group_named s n name
@@ -52,17 +48,17 @@ module _ (s : List ℕ) (n share : ℕ) (name table : List ℕ) (m : ℕ) (e : m
 -- ---- the n groups before
 
 -- every name of a text, of the share looked at, was met
-abbrev Noted : ℕ → List ℕ → List ℕ → Type 0
+abbrev Noted : Share → List ℕ → List ℕ → Type 0
 Noted share text table = (name : List ℕ) → looked_at share (mark name) ≡ true → has (names text) name ≡ true → met table (mark name) ≡ true
 
-module _ (s : List ℕ) (n share : ℕ) (table : List ℕ) (known : Marks s n share table) where
+module _ (s : List ℕ) (n : ℕ) (share : Share) (table : List ℕ) (known : Marks s n share table) where
   marks_kept : (name new : List ℕ) (r : Bool) → NameMet s n share name r table new → Marks s n share new
-  marks_kept name new r meets = record { size = meets.size ∙ known.size; each = λ other h l. meets.kept (mark other) (known.each other h l) }
+  marks_kept name new r meets = record { each = λ other h l. meets.kept (mark other) (known.each other h l) }
 
   -- with the names of group number n it is the table of n + 1
   marks_next : Noted share (text_at s (group_place s n)) table → Marks s (n + 1) share table
   unfolding has_part
-  marks_next own = record { size = known.size; each = λ name h l. old name h l (dec_lt (group_named s n name) n) }
+  marks_next own = record { each = λ name h l. old name h l (dec_lt (group_named s n name) n) }
     where
       new : (name : List ℕ) (b : Bool) → looked_at share (mark name) ≡ true → has_part s name n ≡ b → group_named s (n + 1) name ≡ cond b n (n + 1) → group_named s (n + 1) name < n + 1
           → met table (mark name) ≡ true
@@ -75,68 +71,63 @@ module _ (s : List ℕ) (n share : ℕ) (table : List ℕ) (known : Marks s n sh
           let q : first (has_part s name) 0 n ≡ n = omega (arith, first_within (has_part s name) n, named_start s name n) in
           new name (has_part s name n) h refl (named_start s name (n + 1) ∙ first_grown (has_part s name) n q) l
 
-pub marks_start : (s : List ℕ) (share : ℕ) (table : List ℕ) → length table ≡ 128 → Marks s 0 share table
-marks_start s share table e = record { size = e; each = λ name h l. absurd (omega arith) }
+pub marks_start : (s : List ℕ) (share : Share) (table : List ℕ) → Marks s 0 share table
+marks_start s share table = record { each = λ name h l. absurd (omega arith) }
 
--- ---- the names of a text, up to the one that starts at i
+-- ---- the names of a text, of which ns are still to come
 
--- those before i were met
-unfoldable pub Passed : ℕ → List ℕ → ℕ → List ℕ → Type 0
-Passed share t i table = (name : List ℕ) → looked_at share (mark name) ≡ true → has (names t) name ≡ true → has (names_from t i) name ≡ false → met table (mark name) ≡ true
+-- the others were met
+unfoldable pub Passed : Share → List ℕ → List (List ℕ) → List ℕ → Type 0
+Passed share t ns table = (name : List ℕ) → looked_at share (mark name) ≡ true → has (names t) name ≡ true → has ns name ≡ false → met table (mark name) ≡ true
 
-module _ (share : ℕ) (t : List ℕ) where
-  passed_start : (table : List ℕ) → Passed share t 0 table
+module _ (share : Share) (t : List ℕ) where
+  passed_start : (table : List ℕ) → Passed share t (names t) table
   unfolding Passed
-  passed_start table name l h f = absurd (false≢true (sym (rw (← (names_start t)) at f) ∙ h))
+  passed_start table name l h f = absurd (false≢true (sym f ∙ h))
 
-  passed_next : (s : List ℕ) (n i e : ℕ) (r : Bool) (table new : List ℕ) → Ends t i e → NameMet s n share (part t i e) r table new → Passed share t i table → Passed share t (e + 1) new
-  unfolding Passed
-  passed_next s n i e r table new ends meets before name l h f = go (same (part t i e) name) refl
+  passed_next : (s : List ℕ) (n : ℕ) (y : List ℕ) (ns : List (List ℕ)) (r : Bool) (table new : List ℕ) → NameMet s n share y r table new → Passed share t (y ∷ ns) table → Passed share t ns new
+  unfolding Passed has
+  passed_next s n y ns r table new meets before name l h f = go (same y name) refl
     where
-      go : (b : Bool) → same (part t i e) name ≡ b → met new (mark name) ≡ true
-      go true q = let z = same_is (part t i e) name q in rw (← z) (meets.here (rw z l))
-      go false q = meets.kept (mark name) (before name l h (has_cut (names_from t i) (part t i e) (names_from t (e + 1)) ends.cut false name (sym q) ∙ f))
+      go : (b : Bool) → same y name ≡ b → met new (mark name) ≡ true
+      go true q = let z = same_is y name q in rw (← z) (meets.here (rw z l))
+      go false q = meets.kept (mark name) (before name l h (rw q f))
 
-  passed_end : (i : ℕ) (table : List ℕ) → length t < i → Passed share t i table → Noted share t table
-  unfolding Passed
-  passed_end i table l before name k h = before name k h (has_none (names_from t i) name (names_end t i l))
+  passed_end : (table : List ℕ) → Passed share t [] table → Noted share t table
+  unfolding Passed has
+  passed_end table before name k h = before name k h refl
 
 -- ---- the pass over the names of group number n
 
--- the names of its text t before the one that starts at i were met, and the answer is that of the names from i on
-pub record Passing (s : List ℕ) (n share : ℕ) (t : List ℕ) (i : ℕ) (table : List ℕ) : Type 0 where
-  pub text : t ≡ text_at s (group_place s n)
+-- its names but ns were met, and the answer is that of ns
+pub record Passing (s : List ℕ) (n : ℕ) (share : Share) (ns : List (List ℕ)) (table : List ℕ) : Type 0 where
   pub known : Marks s n share table
-  pub own : Passed share t i table
-  pub rest : again_in share s n ≡ any (taken_in share s n) (names_from t i)
+  pub own : Passed share (text_at s (group_place s n)) ns table
+  pub rest : again_in share s n ≡ any (taken_in share s n) ns
 
-module _ (s : List ℕ) (n share : ℕ) (t table : List ℕ) where
-  pub passing_start : t ≡ text_at s (group_place s n) → Marks s n share table → Passing s n share t 0 table
+module _ (s : List ℕ) (n : ℕ) (share : Share) (table : List ℕ) where
+  pub passing_start : Marks s n share table → Passing s n share (names (text_at s (group_place s n))) table
   unfolding again_in
-  passing_start q known =
-      record { text = q; known = known; own = passed_start share t table; rest = ap (any (taken_in share s n)) (ap names (sym q) ∙ names_start t) }
+  passing_start known = record { known = known; own = passed_start share (text_at s (group_place s n)) table; rest = refl }
 
-  module _ (i : ℕ) (so : Passing s n share t i table) where
-    module _ (e : ℕ) (ends : Ends t i e) (new : List ℕ) where
-      pub passing_taken : NameMet s n share (part t i e) true table new → NamedBefore s n share true new
-      passing_taken meets =
-          record {
-            answer = sym (so.rest ∙ any_cut (names_from t i) (part t i e) (names_from t (e + 1)) ends.cut true (taken_in share s n) meets.answer);
-            noted = λ f. absurd (false≢true (sym f));
-          }
+  module _ (y : List ℕ) (ns : List (List ℕ)) (so : Passing s n share (y ∷ ns) table) (new : List ℕ) where
+    pub passing_taken : NameMet s n share y true table new → NamedBefore s n share true new
+    unfolding any
+    passing_taken meets = record { answer = sym (so.rest ∙ rw (← meets.answer) refl); noted = λ f. absurd (false≢true (sym f)) }
 
-      pub passing_next : NameMet s n share (part t i e) false table new → Passing s n share t (e + 1) new
-      passing_next meets =
-          record {
-            text = so.text;
-            known = marks_kept s n share table so.known (part t i e) new false meets;
-            own = passed_next share t s n i e false table new ends meets so.own;
-            rest = so.rest ∙ any_cut (names_from t i) (part t i e) (names_from t (e + 1)) ends.cut false (taken_in share s n) meets.answer;
-          }
-
-    pub passing_end : length t < i → NamedBefore s n share false table
-    passing_end l =
+    pub passing_next : NameMet s n share y false table new → Passing s n share ns new
+    unfolding any
+    passing_next meets =
         record {
-          answer = sym (so.rest ∙ any_none (names_from t i) (taken_in share s n) (names_end t i l));
-          noted = λ _. marks_next s n share table so.known (rw (← so.text) (passed_end share t i table l so.own));
+          known = marks_kept s n share table so.known y new false meets;
+          own = passed_next share (text_at s (group_place s n)) s n y ns false table new meets so.own;
+          rest = so.rest ∙ rw (← meets.answer) refl;
         }
+
+  pub passing_end : Passing s n share [] table → NamedBefore s n share false table
+  unfolding any
+  passing_end so =
+      record {
+        answer = sym so.rest;
+        noted = λ _. marks_next s n share table so.known (passed_end share (text_at s (group_place s n)) table so.own);
+      }

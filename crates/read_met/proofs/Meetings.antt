@@ -5,7 +5,7 @@ use mathlib.Core.Bool.{Bool, true, false}
 use mathlib.Core.List.{List}
 use lib.Bits.{bit_or}
 use lib.Dec.{eqb}
-use lib.ListN.{length, get_or, set, length-set}
+use lib.ListN.{length, get_or, set}
 use lib.Seq.{get_or-set_same, get_or-set_other}
 use borrow.Author.Tests.{eq-eqb, eqb-true, eqb-false}
 use Rattle.read_names.proofs.Words.{or_again, or_kept}
@@ -31,7 +31,6 @@ module _ (t : List ℕ) (mark : ℕ) (l : word_of mark < length t) where
   unfolding met
   meeting p e =
       rw e (record {
-        size = length-set t (word_of mark) v;
         answer = refl;
         here = rw at_word (eq-eqb (bit_or v (bits mark)) v (or_again (get_or t (word_of mark) 0) (bits mark)));
         kept = λ other h. still other h (eqb (word_of other) (word_of mark)) refl;

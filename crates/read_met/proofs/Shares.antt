@@ -12,6 +12,7 @@ use Rattle.layout.specs.Sdec.{names}
 use Rattle.layout.specs.Body.{group_place, text_at}
 use Rattle.layout.proofs.Scans.{first_within, first_stands, first_passed, first_none, first_is, first_alike}
 use Rattle.read_names.specs.Marks.{spread, mark}
+use Rattle.read_met.specs.declared.table.Share.TheVariants.{Lower, Upper, All}
 use Rattle.read_met.specs.Table.{looked_at}
 use Rattle.read_met.specs.Before.{taken, taken_in, again, again_in}
 use Rattle.read_met.proofs.Sharing.{sharing_taken}
@@ -62,7 +63,7 @@ first_either p q r n h = go (dec_lt (first q 0 (first p 0 n)) (first p 0 n)) (de
 
 -- ---- the shares of the names
 
-looked_all : (m : ℕ) → looked_at 2 m ≡ true
+looked_all : (m : ℕ) → looked_at All m ≡ true
 unfolding looked_at
 looked_all m = refl
 
@@ -70,23 +71,23 @@ mark_small : (name : List ℕ) → mark name < 274877906944
 unfolding mark spread
 mark_small name = omega arith
 
-looked_either : (name : List ℕ) → (looked_at 0 (mark name) || looked_at 1 (mark name)) ≡ true
+looked_either : (name : List ℕ) → (looked_at Lower (mark name) || looked_at Upper (mark name)) ≡ true
 unfolding looked_at
 looked_either name = go (dec_lt (mark name) 137438953472)
   where
-    go : Dec (mark name < 137438953472) → (looked_at 0 (mark name) || looked_at 1 (mark name)) ≡ true
+    go : Dec (mark name < 137438953472) → (looked_at Lower (mark name) || looked_at Upper (mark name)) ≡ true
     go (yes l) = rw (eq-eqb (mark name / 137438953472) 0 (omega arith)) refl
-    go (no l) = rw (eq-eqb (mark name / 137438953472) 1 (omega (arith, mark_small name))) (or-true (looked_at 0 (mark name)))
+    go (no l) = rw (eq-eqb (mark name / 137438953472) 1 (omega (arith, mark_small name))) (or-true (looked_at Lower (mark name)))
 
 module _ (s : List ℕ) where
-  pub again_all : (n : ℕ) → first (again_in 2 s) 0 n ≡ first (again s) 0 n
+  pub again_all : (n : ℕ) → first (again_in All s) 0 n ≡ first (again s) 0 n
   unfolding again again_in taken_in
   again_all n =
-      first_alike (again_in 2 s) (again s) n (λ k l.
-      every_one (λ x. looked_at 2 (mark x)) (λ x. false) (taken s k) (λ x. looked_all (mark x)) (names (text_at s (group_place s k))) ∙ sym (sharing_taken s k (group_place s k)))
+      first_alike (again_in All s) (again s) n (λ k l.
+      every_one (λ x. looked_at All (mark x)) (λ x. false) (taken s k) (λ x. looked_all (mark x)) (names (text_at s (group_place s k))) ∙ sym (sharing_taken s k (group_place s k)))
 
-  pub again_halves : (n m : ℕ) → m ≡ first (again_in 0 s) 0 n → first (again_in 1 s) 0 m ≡ first (again s) 0 n
+  pub again_halves : (n m : ℕ) → m ≡ first (again_in Lower s) 0 n → first (again_in Upper s) 0 m ≡ first (again s) 0 n
   unfolding again again_in taken_in
   again_halves n m e =
-      rw e (first_either (again_in 0 s) (again_in 1 s) (again s) n (λ k.
-      either_share (λ x. looked_at 0 (mark x)) (λ x. looked_at 1 (mark x)) (taken s k) looked_either (names (text_at s (group_place s k))) ∙ sym (sharing_taken s k (group_place s k))))
+      rw e (first_either (again_in Lower s) (again_in Upper s) (again s) n (λ k.
+      either_share (λ x. looked_at Lower (mark x)) (λ x. looked_at Upper (mark x)) (taken s k) looked_either (names (text_at s (group_place s k))) ∙ sym (sharing_taken s k (group_place s k))))

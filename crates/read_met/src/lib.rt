@@ -1,5 +1,7 @@
 // Groups by the names of their parts: the first that has a name, and the first that has a name of one before it (document 01, "Strict body": 13).
 // Names are compared where they lie. Each name met is known again by its mark, so that few are compared with those of the groups before.
+// Where none of n is found the answer is n, as the definitions have it (`Asked.group_named`, `Scan.first`).
+// What is known of the groups is one name, `Places`, over how many they are. It is no struct: the tables are lent by the caller, and the count goes from group to group, so that each step would make a new one and prove it.
 #![tactic(auto)]
 
 ghost use Rattle.std.specs.Prelude.{◌≡◌, false, ◌+◌, ◌≤◌, ◌<◌, ltb, length};
@@ -11,7 +13,7 @@ ghost use Rattle.read_met.specs.Before.{Places, Marks, again, again_in, NameMet,
 
 use layout::limit::GROUPS;
 use layout::size::HEADERS;
-use table::{ALL, LOWER, UPPER, WORDS};
+use table::{Share, WORDS};
 
 mod table;
 
@@ -22,7 +24,7 @@ const CROWD: usize = 1280;
 pub fn wide(place: u16) -> usize
     ensures { result ≡ place }
 {
-    place as usize
+    usize::from(place)
 }
 
 // The text of group number k, where it lies.
@@ -30,7 +32,7 @@ fn text_of<'a>(s: &'a [u8], places: &[u16; GROUPS], k: usize) -> &'a [u8]
     requires { (k < 32) × Places s.now (k + 1) places.now }
     ensures { result.now ≡ text_at s.now (group_place s.now k) }
 {
-    let start = wide(places[k]) + HEADERS;
+    let start = usize::from(places[k]) + HEADERS;
     let end = start + read_bytes::word_at(s, start - 4);
     &s[start..end]
 }
@@ -40,12 +42,10 @@ pub fn group_named(s: &[u8], n: usize, places: &[u16; GROUPS], name: &[u8]) -> u
     requires { (n ≤ 32) × Places s.now n places.now }
     ensures { result ≡ group_named s.now n name.now }
 {
-    let mut k: usize = 0;
-    while k < n {
+    for k in 0..n {
         if read_names::has_name(text_of(s, places, k), name) {
             return k;
         }
-        k += 1;
     }
     n
 }
@@ -55,10 +55,7 @@ fn is_taken(s: &[u8], n: usize, places: &[u16; GROUPS], met: bool, name: &[u8]) 
     requires { (n ≤ 32) × (Places s.now n places.now × (met ≡ false → n ≤ group_named s.now n name.now)) }
     ensures { result ≡ ltb (group_named s.now n name.now) n }
 {
-    if !met {
-        return false;
-    }
-    group_named(s, n, places, name) < n
+    met && group_named(s, n, places, name) < n
 }
 
 // Whether a name is of the share looked at and one of the n groups has it; a name of the share is met.
@@ -67,7 +64,7 @@ fn is_name_met(
     n: usize,
     places: &[u16; GROUPS],
     table: &mut [u64; WORDS],
-    share: usize,
+    share: Share,
     name: &[u8],
 ) -> bool
     requires { (n ≤ 32) × (Places s.now n places.now × Marks s.now n share table.old) }
@@ -87,74 +84,50 @@ fn is_named_before(
     n: usize,
     places: &[u16; GROUPS],
     table: &mut [u64; WORDS],
-    share: usize,
+    share: Share,
 ) -> bool
     requires { (n < 32) × (Places s.now (n + 1) places.now × Marks s.now n share table.old) }
     ensures { NamedBefore s.now n share result table.new }
 {
-    let t = text_of(s, places, n);
-    let mut i: usize = 0;
-    while i <= t.len() {
-        let e = read_names::name_end(t, i);
-        if is_name_met(s, n, places, table, share, &t[i..e]) {
+    for name in text_of(s, places, n).split(|b| *b == b',') {
+        if is_name_met(s, n, places, table, share, name) {
             return true;
         }
-        i = e + 1;
     }
     false
 }
 
 // The first of n groups that has a name of one before it, of the share looked at, or n where none has.
-fn again_in(s: &[u8], n: usize, places: &[u16; GROUPS], share: usize) -> usize
+fn again_in(s: &[u8], n: usize, places: &[u16; GROUPS], share: Share) -> usize
     requires { (n ≤ 32) × Places s.now n places.now }
     ensures { result ≡ first (again_in share s.now) 0 n }
 {
-    let mut table: [u64; WORDS] = [0; WORDS];
-    let mut k: usize = 0;
-    while k < n {
+    let mut table = [0; WORDS];
+    for k in 0..n {
         if is_named_before(s, k, places, &mut table, share) {
             return k;
         }
-        k += 1;
     }
     n
-}
-
-// 1 for a comma.
-fn comma(b: u8) -> usize
-    ensures { result ≤ 1 }
-{
-    if b == 44 {
-        return 1;
-    }
-    0
 }
 
 // How many commas a text has.
 fn commas_in(t: &[u8]) -> usize
     ensures { result ≤ length t.now }
 {
-    let mut count: usize = 0;
-    let mut k: usize = 0;
-    while k < t.len() {
-        count += comma(t[k]);
-        k += 1;
-    }
-    count
+    t.iter().filter(|b| **b == b',').count()
 }
 
 // Whether the names of n groups are more than one pass looks at.
 fn is_crowded(s: &[u8], n: usize, places: &[u16; GROUPS]) -> bool
     requires { (n ≤ 32) × Places s.now n places.now }
 {
-    let mut count: usize = n;
-    let mut k: usize = 0;
-    while k < n {
+    let mut count = n;
+    for k in 0..n {
         if CROWD < count {
             return true;
         }
-        count = count + commas_in(text_of(s, places, k));
-        k += 1;
+        count += commas_in(text_of(s, places, k));
     }
     CROWD < count
 }
@@ -165,8 +138,8 @@ pub fn first_again(s: &[u8], n: usize, places: &[u16; GROUPS]) -> usize
     ensures { result ≡ first (again s.now) 0 n }
 {
     if !is_crowded(s, n, places) {
-        return again_in(s, n, places, ALL);
+        return again_in(s, n, places, Share::All);
     }
-    let k = again_in(s, n, places, LOWER);
-    again_in(s, k, places, UPPER)
+    let k = again_in(s, n, places, Share::Lower);
+    again_in(s, k, places, Share::Upper)
 }

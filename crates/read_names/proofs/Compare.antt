@@ -1,25 +1,28 @@
 -- Two names are the same where they are as long and no byte differs. A list that begins with y answers for y, then for the rest.
-use Prim.Native.Nat.{ℕ, suc, ◌+◌, ◌-◌, ◌≤◌, ◌<◌}
-use native.Mathlib.Omega.{arith}
-use mathlib.Core.Path.{◌≡◌, refl, sym, ap, ◌∙◌}
-use mathlib.Core.Bool.{Bool, true, false, not, ◌&&◌, ◌||◌, and-false, or-true, or_assoc, and_assoc, false≢true}
+use Prim.Native.Nat.{ℕ, ◌<◌}
+use mathlib.Core.Path.{◌≡◌, refl, sym, ap, ap₂, ◌∙◌}
+use mathlib.Core.Bool.{Bool, true, false, cond, not, ◌&&◌, ◌||◌, and-false, or-true, or_assoc, and_assoc, false≢true}
 use mathlib.Core.List.{List, [], ◌∷◌, ◌++◌}
 use lib.Dec.{eqb}
-use lib.ListN.{length, get_or, drop}
-use lib.Seq.{drop-length}
+use lib.ListN.{length}
 use borrow.Author.Tests.{eq-eqb, ne_eqb, eqb-true, eqb-false}
-use Rattle.layout.specs.Lists.{same, has, distinct, every, any}
-use Rattle.read_names.specs.Parts.{part}
-use Rattle.read_names.proofs.Cuts.{part_none, part_more, part_length, drop_more}
+use Rattle.std.specs.Bool.{MatchBool}
+use Rattle.std.specs.Cmp.Lexicographic.{pointwise}
+use Rattle.std.specs.List.{list_any, slice_split, onto_first, AllWithin, HoldsAt}
+use Rattle.std.proofs.lemmas.List.Elements.{All-from_all_within}
+use Rattle.std.proofs.lemmas.List.Folds.{list_any_at, list_any_none}
+use Rattle.layout.specs.Sdec.{names, first_name, later_names}
+use Rattle.layout.specs.Lists.{same, has, distinct, every}
 
 -- ---- two names
 
-same_sizes : (xs ys : List ℕ) → (length xs ≡ length ys → ⊥) → same xs ys ≡ false
+-- the `==` of two slices
+pub same_eq : (xs ys : List ℕ) → pointwise eqb xs ys ≡ same xs ys
 unfolding same
-same_sizes [] [] h = absurd (h refl)
-same_sizes [] (y ∷ ys) h = refl
-same_sizes (x ∷ xs) [] h = refl
-same_sizes (x ∷ xs) (y ∷ ys) h = rw (same_sizes xs ys (λ e. h (ap suc e))) (and-false (eqb x y))
+same_eq [] [] = refl
+same_eq [] (y ∷ ys) = refl
+same_eq (x ∷ xs) [] = refl
+same_eq (x ∷ xs) (y ∷ ys) = ap (λ (b : Bool). eqb x y && b) (same_eq xs ys)
 
 eqb_comm : (x y : ℕ) → eqb x y ≡ eqb y x
 eqb_comm x y = go (eqb y x) refl
@@ -35,24 +38,31 @@ same_comm [] (y ∷ ys) = refl
 same_comm (x ∷ xs) [] = refl
 same_comm (x ∷ xs) (y ∷ ys) = rw (eqb_comm x y, same_comm xs ys)
 
--- the part of t from i up to e, and a name, of which k bytes were compared
-module _ (t name : List ℕ) (i e : ℕ) where
-  pub match_sizes : e ≤ length t → (e - i ≡ length name → ⊥) → same (part t i e) name ≡ false
-  match_sizes h n = same_sizes (part t i e) name (λ q. n (sym (part_length t i e h) ∙ q))
+-- ---- the names of a text, as `split` cuts it
 
-  pub match_start : same (part t i e) name ≡ same (part t (i + 0) e) (drop 0 name)
-  match_start = let z : i + 0 ≡ i = omega arith in rw z
+pub names_parts : (t : List ℕ) → slice_split (λ b. eqb b 44) t ≡ names t
+unfolding names first_name later_names
+names_parts [] = refl
+names_parts (b ∷ t) = rw (names_parts t) (go (eqb b 44))
+  where
+    go : (c : Bool) → cond c ([] ∷ first_name t ∷ later_names t) (onto_first b (first_name t ∷ later_names t)) ≡ cond c [] (b ∷ first_name t) ∷ cond c (first_name t ∷ later_names t) (later_names t)
+    go true = refl
+    go false = refl
 
-  pub match_next : (k : ℕ) (r : Bool) → e ≤ length t → i + k < e → k < length name → eqb (get_or t (i + k) 0) (get_or name k 0) ≡ r
-      → same (part t (i + k) e) (drop k name) ≡ r && same (part t (i + (k + 1)) e) (drop (k + 1) name)
-  unfolding same
-  match_next k r h l m q =
-      let z : i + k + 1 ≡ i + (k + 1) = omega arith in
-      rw (part_more t (i + k) e l h, drop_more name k m, q, z)
+has_eq : (name : List ℕ) (xs : List (List ℕ)) → list_any (λ x. pointwise eqb x name) xs ≡ has xs name
+unfolding has
+has_eq name [] = refl
+has_eq name (x ∷ xs) = ap₂ (λ (a b : Bool). a || b) (same_eq x name) (has_eq name xs)
 
-  pub match_end : (k : ℕ) → i + k ≡ e → k ≡ length name → same (part t (i + k) e) (drop k name) ≡ true
-  unfolding same
-  match_end k q l = rw (part_none t (i + k) e (sym q), l, drop-length name)
+-- one of the parts is the name
+pub has_part : (t name : List ℕ) → list_any (λ x. pointwise eqb x name) (slice_split (λ b. eqb b 44) t) ≡ has (names t) name
+has_part t name = has_eq name (slice_split (λ b. eqb b 44) t) ∙ ap (λ l. has l name) (names_parts t)
+
+-- an element that passes was met, or none passes
+pub any_told : (p : List ℕ → Bool) (xs : List (List ℕ)) (r : Bool)
+    → MatchBool r ((k : ℕ) × (k < length xs) × HoldsAt (λ x. p x ≡ true) xs k) (AllWithin (λ x. p x ≡ false) xs 0 (length xs)) → r ≡ list_any p xs
+any_told p xs true (k, l, h) = sym (list_any_at p xs k [] l (h []))
+any_told p xs false h = sym (list_any_none p xs (All-from_all_within (λ x. p x ≡ false) xs h))
 
 -- ---- lists of names
 
@@ -61,17 +71,9 @@ module _ (l : List (List ℕ)) (y : List ℕ) (ys : List (List ℕ)) (e : l ≡ 
   unfolding has
   has_cut x h = rw (e, h)
 
-  pub any_cut : (p : List ℕ → Bool) → r ≡ p y → any p l ≡ r || any p ys
-  unfolding any
-  any_cut p h = rw (e, h)
-
 pub has_none : (l : List (List ℕ)) (x : List ℕ) → l ≡ [] → has l x ≡ false
 unfolding has
 has_none l x e = rw e
-
-pub any_none : (l : List (List ℕ)) (p : List ℕ → Bool) → l ≡ [] → any p l ≡ false
-unfolding any
-any_none l p e = rw e
 
 pub every_append : {A : Type 0} (p : A → Bool) (xs ys : List A) → every p (xs ++ ys) ≡ every p xs && every p ys
 unfolding every

@@ -55,10 +55,14 @@ module _ (t : List ℕ) (i : ℕ) where
           cut = c ∙ rw (drop_more t k l, eq-eqb (get_or t k 0) 44 q, le-leb (k + 1) (length t) (omega arith)) (rw append-nil);
         }
 
-    pub ends_last : k ≡ length t → Ends t i k
+    pub ends_last : k ≡ length t → Ends t i (length t)
     unfolding cut_at first_name later_names names_from
     ends_last e =
-        record { from = h; within = omega arith; cut = c ∙ rw (lt-leb (k + 1) (length t) (omega arith)) (rw (e, drop-length t) (rw append-nil)) }
+        rw (← e) (record {
+          from = h;
+          within = omega arith;
+          cut = c ∙ rw (lt-leb (k + 1) (length t) (omega arith)) (rw (e, drop-length t) (rw append-nil));
+        })
 
 -- ---- the names from a place on
 

@@ -7,13 +7,13 @@ use mathlib.Core.List.{List, [], ◌∷◌, ◌++◌, append-nil, append_assoc}
 use lib.Bits.{bit_or}
 use lib.Dec.{leb}
 use lib.ListN.{length, get_or, set, take, drop, drop_of_length-le}
-use lib.Seq.{slice, slice-cons, slice_empty, take-suc-set}
+use lib.Seq.{take-suc-set}
 use native.Mathlib.Numerals.{add-one}
 use borrow.Author.Tests.{le-leb, lt-leb}
 use Rattle.layout.specs.Lists.{has, distinct, every}
 use Rattle.layout.specs.Ranges.{◌to◌, inside}
 use Rattle.layout.specs.Sdec.{names, sound_text}
-use Rattle.read_names.specs.Parts.{part, names_from, Ends, Checked, cuts, next, Placed, none, more}
+use Rattle.read_names.specs.Parts.{part, names_from, Ends, cuts, next, Placed, none, more}
 use Rattle.read_names.specs.Marks.{sign}
 use Rattle.read_names.proofs.Signs.{Met, met_none, met_more}
 use Rattle.read_names.proofs.Cuts.{drop_more, part_length, names_start, names_end}
@@ -49,33 +49,22 @@ module _ (t : List ℕ) (k : ℕ) where
   unfolding every
   plain_end h = rw (drop_of_length-le t h)
 
-  -- a byte that is not 20H to 7EH, and a name whose bytes are
-  pub checked_out : (i : ℕ) → i ≤ k → k < length t → plain t i ≡ plain t k → inside (0x20 to 0x7E) (get_or t k 0) ≡ false → Checked t i (length t + 1)
-  checked_out i h l b q =
-      record { from = omega arith; ends = λ x. absurd (omega arith); bytes = λ x. absurd (omega arith); out = λ _. b ∙ plain_next false l q }
+-- ---- the names that end at the bytes of a list, from number k on
 
-  pub checked_in : (i : ℕ) → Ends t i k → plain t i ≡ plain t k → plain t k ≡ plain t (k + 1) → Checked t i k
-  checked_in i n b q = record { from = n.from; ends = λ _. n; bytes = λ _. b ∙ q; out = λ x. absurd (omega (arith, n.within)) }
-
--- ---- the names that end at the bytes of a list, from number k up to m
-
-module _ (es : List ℕ) (i k m e : ℕ) (h : k < m) (l : m ≤ length es) (q : e ≡ get_or es k 0) where
-  ends_next : slice k m es ≡ e ∷ slice (k + 1) m es
-  ends_next = rw (q, add-one k) (slice-cons k m es 0 h l)
-
-  pub cuts_next : (t : List ℕ) → cuts t i (slice k m es) ≡ part t i e ∷ cuts t (e + 1) (slice (k + 1) m es)
+module _ (es : List ℕ) (i k e : ℕ) (h : k < length es) (q : e ≡ get_or es k 0) where
+  pub cuts_next : (t : List ℕ) → cuts t i (drop k es) ≡ part t i e ∷ cuts t (e + 1) (drop (k + 1) es)
   unfolding cuts
-  cuts_next t = rw (ends_next, cuts)
+  cuts_next t = rw (q, drop_more es k h, cuts)
 
-  pub placed_next : (n : ℕ) → Placed n i (slice k m es) → (i ≤ e) × ((e ≤ n) × Placed n (e + 1) (slice (k + 1) m es))
-  placed_next n p = go (rw ends_next at p)
+  pub placed_next : (n : ℕ) → Placed n i (drop k es) → (i ≤ e) × ((e ≤ n) × Placed n (e + 1) (drop (k + 1) es))
+  placed_next n p = go (rw (drop_more es k h, ← q) at p)
     where
-      go : Placed n i (e ∷ slice (k + 1) m es) → (i ≤ e) × ((e ≤ n) × Placed n (e + 1) (slice (k + 1) m es))
+      go : Placed n i (e ∷ drop (k + 1) es) → (i ≤ e) × ((e ≤ n) × Placed n (e + 1) (drop (k + 1) es))
       go (more a b r) = (a, (b, r))
 
-pub cuts_end : (t es : List ℕ) (i k m : ℕ) → k ≡ m → cuts t i (slice k m es) ≡ []
+pub cuts_end : (t es : List ℕ) (i k : ℕ) → length es ≤ k → cuts t i (drop k es) ≡ []
 unfolding cuts
-cuts_end t es i k m h = rw (h, slice_empty m es)
+cuts_end t es i k h = rw (drop_of_length-le es h)
 
 pub ends_grow : (es : List ℕ) (m e : ℕ) → m < length es → take (m + 1) (set es m e) ≡ take m es ++ (e ∷ [])
 ends_grow es m e h = rw (add-one m) (take-suc-set es m e h)

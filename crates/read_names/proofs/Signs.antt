@@ -1,23 +1,16 @@
 -- The names of a text so far, known by a bit each: one whose bit is not set is none of them.
-use Prim.Native.Nat.{ℕ, ◌+◌, ◌*◌, ◌-◌, ◌%◌, ◌^◌}
-use native.Mathlib.Omega.{arith}
+use Prim.Native.Nat.{ℕ, ◌^◌}
 use mathlib.Core.Path.{◌≡◌, refl, sym, ◌∙◌}
 use mathlib.Core.Bool.{Bool, true, false, ◌||◌, or-false, false≢true}
 use mathlib.Core.List.{List, [], ◌∷◌, ◌++◌}
 use lib.Bits.{bit_or}
 use lib.Dec.{eqb}
-use lib.ListN.{length, get_or}
 use borrow.Author.Tests.{eq-eqb}
 use Rattle.layout.specs.Lists.{same, has}
 use Rattle.layout.proofs.Same.{same_is}
 use Rattle.read_names.specs.Marks.{sign}
 use Rattle.read_names.proofs.Compare.{has_append}
-use Rattle.read_names.proofs.Words.{or_again, or_kept, one_bit}
-
--- the bit of a name whose first byte is a and whose last is b, as a shift gives it
-pub bit_is : (name : List ℕ) (a b : ℕ) → a ≡ get_or name 0 0 → b ≡ get_or name (length name - 1) 0 → (1 * 2 ^ ((7 * a + b + length name) % 64)) % 18446744073709551616 ≡ 2 ^ sign name
-unfolding sign
-bit_is name a b e f = rw (e, f) (one_bit ((7 * get_or name 0 0 + get_or name (length name - 1) 0 + length name) % 64) (omega arith))
+use Rattle.read_names.proofs.Words.{or_again, or_kept}
 
 -- each of the names has its bit in met
 abbrev pub Met : ℕ → List (List ℕ) → Type 0

@@ -1,32 +1,15 @@
 -- A byte judged by the columns of a table of ranges is judged by the table of the edition whose columns they are.
 use Prim.Native.Nat.{ℕ, ◌+◌, ◌≤◌, ◌<◌}
 use mathlib.Core.Path.{◌≡◌, sym, ◌∙◌}
-use mathlib.Core.Bool.{Bool, true, false, not, ◌&&◌}
+use mathlib.Core.Bool.{Bool}
 use mathlib.Core.List.{List}
 use lib.ListN.{get_or}
-use borrow.Author.Tests.{lt-ltb, le-ltb}
 use Rattle.layout.specs.declared.edition.Edition.{Edition}
 use Rattle.layout.specs.Scan.{first}
-use Rattle.layout.specs.Ranges.{sound_table, rule_at, out_of, out_at, first_out}
+use Rattle.layout.specs.Ranges.{rule_at, out_of, out_at, first_out}
 use Rattle.layout.proofs.Scans.{first_alike, first_cut, first_on}
 use Rattle.layout.proofs.Outs.{lows, highs, ruleds, out_columns}
 use Rattle.read_ranges.specs.Judging.{out_by, out_standing}
-
--- ---- one law for each way out
-
-module _ (low high : List ℕ) (ruled : List Bool) (k rule v : ℕ) where
-  pub by_below : v < get_or low k 0 → out_by low high ruled k rule v ≡ true
-  unfolding out_by
-  by_below h = rw (lt-ltb v (get_or low k 0) h)
-
-  module _ (h : get_or low k 0 ≤ v) where
-    pub by_above : get_or high k 0 < v → out_by low high ruled k rule v ≡ true
-    unfolding out_by
-    by_above l = rw (le-ltb v (get_or low k 0) h, lt-ltb (get_or high k 0) v l)
-
-    pub by_rest : v ≤ get_or high k 0 → out_by low high ruled k rule v ≡ get_or ruled k false && not (sound_table rule v)
-    unfolding out_by
-    by_rest l = rw (le-ltb v (get_or low k 0) h, le-ltb (get_or high k 0) v l)
 
 -- a byte where it stands
 pub stands_at : (low high : List ℕ) (ruled : List Bool) (s : List ℕ) (at k rule : ℕ) (t : Bool) → rule ≡ rule_at s at k → t ≡ out_by low high ruled k rule (get_or s (at + k) 0) → out_standing low high ruled s at k ≡ t

@@ -1,4 +1,5 @@
 // Bytes judged by the columns of a table of ranges, whichever edition's (document 01, "The CASM body"; document 02, §4): the lowest and the highest value of each byte, and which bytes are tables, judged by the rule before them, too.
+// A column is an array of its own, and each edition lends its three where their numbers are known: so they go into the tests, and are not laid down in memory (docs/SPEED.md, "The columns of a Ctb2's ranges").
 ghost use Rattle.std.specs.Prelude.{◌≡◌, ◌+◌, ◌≤◌, ◌<◌, not, ◌&&◌, length};
 ghost use Rattle.layout.specs.Scan.{first};
 ghost use Rattle.layout.specs.Ranges.{sound_table, rule_at};
@@ -7,6 +8,7 @@ ghost use Rattle.read_ranges.specs.Judging.{out_by, out_standing};
 use layout::rule::THIRD;
 
 // Whether a byte that is a table, if it is one, is barred by the rule before it: 00-0A, or 00-02 under rule 2, each with or without bit 7.
+#[tactic(auto, unfolding(layout::specs::Ranges::sound_table))]
 fn is_barred(ruled: bool, rule: u8, v: u8) -> bool
     ensures { result ≡ ruled && not (sound_table rule v) }
 {
@@ -20,6 +22,7 @@ fn is_barred(ruled: bool, rule: u8, v: u8) -> bool
 }
 
 // Whether a value is out of the range of byte k, which stands behind the byte `rule`.
+#[tactic(auto, unfolding(crate::specs::Judging::out_by))]
 pub fn is_out_by(low: &[u8], high: &[u8], ruled: &[bool], k: usize, rule: u8, v: u8) -> bool
     requires { (k < length low.now) × ((k < length high.now) × (k < length ruled.now)) }
     ensures { result ≡ out_by low.now high.now ruled.now k rule v }
@@ -34,6 +37,7 @@ pub fn is_out_by(low: &[u8], high: &[u8], ruled: &[bool], k: usize, rule: u8, v:
 }
 
 // The byte before byte k of the record at `at`, 0 where there is none: the rule of its set, where byte k is a table.
+#[tactic(auto, unfolding(layout::specs::Ranges::rule_at))]
 pub fn rule_before(s: &[u8], at: usize, k: usize) -> u8
     requires { at + k ≤ length s.now }
     ensures { result ≡ rule_at s.now at k }
@@ -59,14 +63,12 @@ pub fn first_out_part(
     ensures { result ≡ first (out_standing low.now high.now ruled.now s.now at) from to }
 {
     let mut rule = rule_before(s, at, from);
-    let mut k = from;
-    while k < to {
+    for k in from..to {
         let b = s[at + k];
         if is_out_by(low, high, ruled, k, rule, b) {
             return k;
         }
         rule = b;
-        k += 1;
     }
     to
 }

@@ -39,7 +39,7 @@ pub fn first_out_ctab(s: &[u8], at: usize, n: usize) -> usize
     first_out_part(&low, &high, &ruled, s, at, 13, n)
 }
 
-// Whether a value is out of the range of byte k of a Ctab.
+// Whether a value is out of the range of byte k of a Ctab. (What it shares with a Ctb2 is `is_out_by`: only the columns that are lent are its own.)
 pub fn is_out_ctab(k: usize, rule: u8, v: u8) -> bool
     requires { k < size First }
     ensures { result ≡ out_of First k rule v }

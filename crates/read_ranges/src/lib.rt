@@ -14,8 +14,8 @@ use crate::ctb2::{first_out_ctb2, is_out_ctb2};
 use layout::edition::Edition;
 use layout::size::{HELD, RECORD};
 
-// The first byte of the record of an edition at `at` that is out of its range, or its size where none is.
-// How many bytes are looked at is a number of the edition: passed on, it would keep the table from being folded into the loop.
+// The first byte of the record of an edition at `at` that is out of its range, or its size where none is: a number and no Option, as `first_out` and its theorems count.
+// How many bytes are looked at is a number of the edition: passed on, it would keep the table from being folded into the loop (docs/SPEED.md).
 pub fn first_out(edition: Edition, s: &[u8], at: usize) -> usize
     requires { at + size edition ≤ length s.now }
     ensures { result ≡ first_out edition s.now at (size edition) }
@@ -26,7 +26,7 @@ pub fn first_out(edition: Edition, s: &[u8], at: usize) -> usize
     }
 }
 
-// The same of the bytes that are held in memory, at the start of b.
+// The same of the bytes that are held in memory, at the start of b: their count is a number here, too.
 pub fn first_out_held(edition: Edition, b: &[u8]) -> usize
     requires { held edition ≤ length b.now }
     ensures { result ≡ first_out edition b.now 0 (held edition) }
@@ -49,20 +49,9 @@ pub fn is_out(edition: Edition, k: usize, rule: u8, v: u8) -> bool
 }
 
 // Whether a Cntt may have this table value: 04, 06 to 0A, 80 to 8A.
+#[tactic(auto, unfolding(layout::specs::Ranges::cntt_value, layout::specs::Ranges::inside))]
 pub fn is_cntt_value(v: usize) -> bool
     ensures { result ≡ cntt_value v }
 {
-    if v < 0x04 {
-        return false;
-    }
-    if v == 0x05 {
-        return false;
-    }
-    if v <= 0x0A {
-        return true;
-    }
-    if v < 0x80 {
-        return false;
-    }
-    v <= 0x8A
+    matches!(v, 0x04 | 0x06..=0x0A | 0x80..=0x8A)
 }

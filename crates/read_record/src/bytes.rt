@@ -5,17 +5,15 @@ ghost use Rattle.layout.specs.Records.{set_bytes, triple_bytes, head_bytes, laid
 use layout::record::{Form, Record, Set, Triple};
 use layout::size::SECOND_RECORD;
 
-// The bytes of a record with one set, and 00 behind them.
-fn ctab_bytes(r: Record, set: Set) -> [u8; SECOND_RECORD]
-    ensures { result ≡ head_bytes r ++ (set_bytes set ++ replicate 21 0) }
+// Bytes 0-19 of a record, and these behind them.
+fn laid(r: Record, rest: [u8; 27]) -> [u8; SECOND_RECORD]
+    ensures { result ≡ head_bytes r ++ rest }
 {
-    let source = r.source;
     let voice = r.voice;
-    let destination = r.destination;
     let roots = r.roots;
     let chords = r.chords;
     [
-        source.0,
+        r.source.0,
         voice[0],
         voice[1],
         voice[2],
@@ -24,7 +22,7 @@ fn ctab_bytes(r: Record, set: Set) -> [u8; SECOND_RECORD]
         voice[5],
         voice[6],
         voice[7],
-        destination.0,
+        r.destination.0,
         r.locked,
         roots[0],
         roots[1],
@@ -35,6 +33,42 @@ fn ctab_bytes(r: Record, set: Set) -> [u8; SECOND_RECORD]
         chords[4],
         r.root,
         r.chord,
+        rest[0],
+        rest[1],
+        rest[2],
+        rest[3],
+        rest[4],
+        rest[5],
+        rest[6],
+        rest[7],
+        rest[8],
+        rest[9],
+        rest[10],
+        rest[11],
+        rest[12],
+        rest[13],
+        rest[14],
+        rest[15],
+        rest[16],
+        rest[17],
+        rest[18],
+        rest[19],
+        rest[20],
+        rest[21],
+        rest[22],
+        rest[23],
+        rest[24],
+        rest[25],
+        rest[26],
+    ]
+}
+
+// Bytes 20-25 of a Ctab, and 00 behind them.
+#[tactic(auto, unfolding(layout::specs::Records::set_bytes))]
+fn one(set: Set) -> [u8; 27]
+    ensures { result ≡ set_bytes set ++ replicate 21 0 }
+{
+    [
         set.rule,
         set.table,
         set.key,
@@ -65,40 +99,16 @@ fn ctab_bytes(r: Record, set: Set) -> [u8; SECOND_RECORD]
     ]
 }
 
-// .. and of one with three.
-fn ctb2_bytes(r: Record, x: Triple) -> [u8; SECOND_RECORD]
-    ensures { result ≡ head_bytes r ++ triple_bytes x }
+// Bytes 20-46 of a Ctb2.
+#[tactic(auto, unfolding(layout::specs::Records::set_bytes, layout::specs::Records::triple_bytes, layout::specs::Records::tail_bytes))]
+fn three(x: Triple) -> [u8; 27]
+    ensures { result ≡ triple_bytes x }
 {
-    let source = r.source;
-    let voice = r.voice;
-    let destination = r.destination;
-    let roots = r.roots;
-    let chords = r.chords;
     let low = x.low;
     let middle = x.middle;
     let high = x.high;
     let tail = x.tail;
     [
-        source.0,
-        voice[0],
-        voice[1],
-        voice[2],
-        voice[3],
-        voice[4],
-        voice[5],
-        voice[6],
-        voice[7],
-        destination.0,
-        r.locked,
-        roots[0],
-        roots[1],
-        chords[0],
-        chords[1],
-        chords[2],
-        chords[3],
-        chords[4],
-        r.root,
-        r.chord,
         x.from,
         x.to,
         low.rule,
@@ -130,15 +140,12 @@ fn ctb2_bytes(r: Record, x: Triple) -> [u8; SECOND_RECORD]
 }
 
 // The bytes of a record; 00 behind those of a Ctab.
+#[tactic(auto, unfolding(layout::specs::Records::laid_out, layout::specs::Records::bytes_of, layout::specs::Records::form_bytes, layout::specs::Records::form_edition))]
 pub fn bytes_of(r: Record) -> [u8; SECOND_RECORD]
     ensures { result ≡ laid_out r }
 {
-    let form = r.form;
-    match form {
-        Form::One(x) => {
-            let set = x.set;
-            ctab_bytes(r, set)
-        }
-        Form::Three(x) => ctb2_bytes(r, x),
+    match r.form {
+        Form::One(x) => laid(r, one(x.set)),
+        Form::Three(x) => laid(r, three(x)),
     }
 }

@@ -1,7 +1,7 @@
 // What the editions differ in besides their ranges: the tag of a record's chunk, the size of a record, and so where the Ctabs of a group stand.
 ghost use Rattle.std.specs.Prelude.{◌≡◌, ◌≤◌, ◌<◌, length};
 ghost use Rattle.layout.specs.Bytes.{four};
-ghost use Rattle.layout.specs.Editions.{tag_of, size, held, alike};
+ghost use Rattle.layout.specs.Editions.{tag_of, size, held};
 ghost use Rattle.layout.specs.Group.{ctab_place};
 
 use layout::edition::Edition;
@@ -9,6 +9,7 @@ use layout::size::{CTAB_STRIDE, CTB2_STRIDE, HELD, RECORD, SECOND_RECORD};
 use layout::tag::{CTAB, CTB2};
 
 // The tag of a record's chunk, as a number.
+#[tactic(auto, unfolding(layout::specs::Bytes::four))]
 pub fn tag_of(edition: Edition) -> usize
     ensures { (four result ≡ tag_of edition) × (result < 4294967296) }
 {
@@ -35,22 +36,6 @@ pub fn held_of(edition: Edition) -> usize
     match edition {
         Edition::First => HELD,
         Edition::Second => SECOND_RECORD,
-    }
-}
-
-// Whether two editions are the same.
-pub fn is_alike(a: Edition, b: Edition) -> bool
-    ensures { result ≡ alike a b }
-{
-    match a {
-        Edition::First => match b {
-            Edition::First => true,
-            Edition::Second => false,
-        },
-        Edition::Second => match b {
-            Edition::First => false,
-            Edition::Second => true,
-        },
     }
 }
 

@@ -10,6 +10,7 @@ use layout::record::{
 };
 
 // The set at a place.
+#[tactic(auto, unfolding(layout::specs::Records::set_at))]
 pub fn set_at(b: &[u8], at: usize) -> Set
     requires { at + 6 ≤ length b.now }
     ensures { result ≡ set_at b.now at }
@@ -25,6 +26,7 @@ pub fn set_at(b: &[u8], at: usize) -> Set
 }
 
 // Bytes 40-46.
+#[tactic(auto, unfolding(layout::specs::Records::tail_at))]
 fn tail_at(b: &[u8]) -> Tail
     requires { held Second ≤ length b.now }
     ensures { result ≡ tail_at b.now }
@@ -33,6 +35,7 @@ fn tail_at(b: &[u8]) -> Tail
 }
 
 // The record whose bytes 0-19 stand at the start of b, with this form.
+#[tactic(auto, unfolding(layout::specs::Records::record_with))]
 fn record_with(b: &[u8], form: Form) -> Record
     requires { 20 ≤ length b.now }
     ensures { result ≡ record_with b.now form }
@@ -46,44 +49,39 @@ fn record_with(b: &[u8], form: Form) -> Record
         chords: [b[13], b[14], b[15], b[16], b[17]],
         root: b[18],
         chord: b[19],
-        form: form,
+        form,
     }
 }
 
-// The record of a Ctab whose bytes 0-25 stand at the start of b, with its Cntt and the Cntt's position.
+// The record of a Ctab whose bytes 0-25 stand at the start of b, with its Cntt and the Cntt's position. (One function for both editions would choose between two forms that share no field.)
+#[tactic(auto, unfolding(layout::specs::Records::record_of, layout::specs::Records::form_of))]
 fn ctab_of(b: &[u8], second: SecondTable, position: u8) -> Record
     requires { held First ≤ length b.now }
     ensures { result ≡ record_of First b.now second position }
 {
-    let set = set_at(b, 20);
     let x = Single {
-        set: set,
-        second: second,
-        position: position,
+        set: set_at(b, 20),
+        second,
+        position,
     };
-    let form = Form::One(x);
-    record_with(b, form)
+    record_with(b, Form::One(x))
 }
 
 // The record of a Ctb2 whose bytes stand at the start of b.
+#[tactic(auto, unfolding(layout::specs::Records::record_of, layout::specs::Records::form_of))]
 fn ctb2_of(b: &[u8], second: SecondTable, position: u8) -> Record
     requires { held Second ≤ length b.now }
     ensures { result ≡ record_of Second b.now second position }
 {
-    let low = set_at(b, 22);
-    let middle = set_at(b, 28);
-    let high = set_at(b, 34);
-    let tail = tail_at(b);
     let x = Triple {
         from: b[20],
         to: b[21],
-        low: low,
-        middle: middle,
-        high: high,
-        tail: tail,
+        low: set_at(b, 22),
+        middle: set_at(b, 28),
+        high: set_at(b, 34),
+        tail: tail_at(b),
     };
-    let form = Form::Three(x);
-    record_with(b, form)
+    record_with(b, Form::Three(x))
 }
 
 // The record of an edition whose bytes stand at the start of b; a Cntt is the first edition's alone.

@@ -7,7 +7,7 @@ use mathlib.Core.List.{List}
 use lib.ListN.{length}
 use borrow.Author.Tests.{lt-ltb, le-ltb}
 use Rattle.layout.specs.declared.edition.Edition.{Edition}
-use Rattle.layout.specs.declared.turn.Judged.TheVariants.{Unsound, Sound}
+use Rattle.layout.specs.Group.{Unsound, Sound}
 use Rattle.layout.specs.Answers.{refused, granted}
 use Rattle.layout.specs.Bytes.{word}
 use Rattle.layout.specs.Group.{group_size, group_at}

@@ -7,8 +7,7 @@ use mathlib.Core.List.{List, [], ◌∷◌, flatten, flat_map}
 use lib.Dec.{ltb}
 use lib.ListN.{length, drop, length-append}
 use borrow.Author.Tests.{le-ltb}
-use Rattle.layout.specs.declared.turn.Judged.{Judged}
-use Rattle.layout.specs.declared.turn.Judged.TheVariants.{Unsound, Sound}
+use Rattle.layout.specs.Group.{Judged}
 use Rattle.layout.specs.Group.{group_size, group_at}
 use Rattle.layout.specs.Answers.{granted}
 use Rattle.layout.specs.Salvage.{front, pieces, Part, rest, listed, judged, parts, Entry, entries_from, salvage, list_numbers, salvaged}
@@ -17,6 +16,7 @@ use Rattle.layout.proofs.Elements.{all_append, all_flat_map}
 use Rattle.read_salvage.proofs.Numbered.{refusal_most}
 use Rattle.read_salvage.proofs.Joined.{joined, parts_joined}
 use Rattle.read_salvage.proofs.Room.{few, numbers_length}
+use Rattle.std.specs.Prelude.{Ok, Err}
 
 -- ---- kinds
 
@@ -30,8 +30,8 @@ rest_kinds (b ∷ s) = (omega arith, tt)
 
 listed_kinds : (p : List ℕ) (v : Judged) → group_at p ≡ v → Kinds (listed p v)
 unfolding listed
-listed_kinds p (Unsound number place) e = (refusal_most p number place e, tt)
-listed_kinds p (Sound ed t n m) e = (omega arith, rest_kinds (drop (group_size p) p))
+listed_kinds p (Err why) e = (refusal_most p why.number why.place e, tt)
+listed_kinds p (Ok x) e = (omega arith, rest_kinds (drop (group_size p) p))
 
 judged_kinds : (p : List ℕ) → Kinds (judged p)
 unfolding judged

@@ -3,11 +3,11 @@ use Prim.Native.Nat.{ℕ}
 use mathlib.Core.Path.{◌≡◌, refl}
 use mathlib.Core.List.{List, [], ◌∷◌, ◌++◌, map, append_assoc, append-nil, flatten, flat_map}
 use lib.ListN.{drop, take-append-drop}
-use Rattle.layout.specs.declared.turn.Judged.{Judged}
-use Rattle.layout.specs.declared.turn.Judged.TheVariants.{Unsound, Sound}
+use Rattle.layout.specs.Group.{Judged}
 use Rattle.layout.specs.Group.{group_size, group_at}
 use Rattle.layout.specs.Salvage.{front, pieces, Part, rest, listed, judged, parts}
 use Rattle.read_salvage.proofs.Cut.{cut_joined}
+use Rattle.std.specs.Prelude.{Ok, Err}
 
 -- the bytes of parts, one after the other
 abbrev pub joined : List Part → List ℕ
@@ -34,8 +34,8 @@ joined_rest (b ∷ s) = append-nil (b ∷ s)
 
 joined_listed : (p : List ℕ) (v : Judged) → joined (listed p v) ≡ p
 unfolding flatten listed
-joined_listed p (Sound ed t n m) = rw (joined_rest (drop (group_size p) p), take-append-drop)
-joined_listed p (Unsound number place) = append-nil p
+joined_listed p (Ok x) = rw (joined_rest (drop (group_size p) p), take-append-drop)
+joined_listed p (Err why) = append-nil p
 
 joined_judged : (ps : List (List ℕ)) → joined (flat_map judged ps) ≡ flatten ps
 unfolding judged flat_map flatten

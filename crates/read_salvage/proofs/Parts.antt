@@ -6,7 +6,7 @@ use mathlib.Core.List.{List, [], ◌∷◌, ◌++◌, append_assoc, append-nil, 
 use lib.ListN.{length, take, drop}
 use lib.Seq.{take-length, take-append_seam, drop-append_seam}
 use Rattle.layout.specs.declared.edition.Edition.{Edition}
-use Rattle.layout.specs.declared.turn.Judged.TheVariants.{Sound}
+use Rattle.layout.specs.Group.{Sound}
 use Rattle.layout.specs.Group.{group_size, group_at}
 use Rattle.layout.specs.Salvage.{cseg, front, pieces, rest, listed, judged, parts}
 use Rattle.layout.proofs.Lists.{flat_map_append}

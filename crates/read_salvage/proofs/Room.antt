@@ -4,8 +4,7 @@ use native.Mathlib.Omega.{arith}
 use mathlib.Core.Path.{◌≡◌, refl, sym, ◌∙◌, ap}
 use mathlib.Core.List.{List, [], ◌∷◌, flatten, flat_map}
 use lib.ListN.{length, drop, length-append}
-use Rattle.layout.specs.declared.turn.Judged.{Judged}
-use Rattle.layout.specs.declared.turn.Judged.TheVariants.{Unsound, Sound}
+use Rattle.layout.specs.Group.{Judged}
 use Rattle.layout.specs.Group.{group_size, group_at}
 use Rattle.layout.specs.Salvage.{front, pieces, Part, rest, listed, judged, parts, Entry, entries_from, salvage, entry_numbers, list_numbers}
 use Rattle.layout.specs.Lists.{All}
@@ -13,6 +12,7 @@ use Rattle.read_salvage.specs.Cut.{Piece}
 use Rattle.read_salvage.proofs.Cseg.{cseg_is}
 use Rattle.read_salvage.proofs.Cut.{cut_joined, pieces_are}
 use Rattle.read_salvage.proofs.Verdicts.{size_some, size_within}
+use Rattle.std.specs.Prelude.{Ok, Err}
 
 rest_one : (t : List ℕ) → length (rest t) ≤ min 1 (length t)
 unfolding rest
@@ -22,8 +22,8 @@ rest_one (b ∷ t) = omega arith
 -- a piece has four bytes, and more than eight where a sound group and a rest stand in it
 listed_few : (p : List ℕ) (v : Judged) → group_at p ≡ v → 4 ≤ length p → 4 * length (listed p v) ≤ length p
 unfolding listed
-listed_few p (Unsound number place) e h = omega arith
-listed_few p (Sound ed t n m) e h = omega (arith, rest_one (drop (group_size p) p), size_some p ed t n m e, size_within p ed t n m e)
+listed_few p (Err why) e h = omega arith
+listed_few p (Ok x) e h = omega (arith, rest_one (drop (group_size p) p), size_some p x.edition x.text x.ctabs x.cntts e, size_within p x.edition x.text x.ctabs x.cntts e)
 
 judged_few : (p : List ℕ) → Piece p → 4 * length (judged p) ≤ length p
 unfolding judged

@@ -9,7 +9,7 @@ use mathlib.Core.List.{List, [], ◌∷◌, ◌++◌}
 use lib.ListN.{length, take, drop, length-drop, drop_of_length-le}
 use lib.Seq.{length-take-le, take-length, drop-length, drop-drop}
 use Rattle.layout.specs.declared.edition.Edition.{Edition}
-use Rattle.layout.specs.declared.turn.Judged.TheVariants.{Unsound, Sound}
+use Rattle.layout.specs.Group.{Unsound, Sound}
 use Rattle.layout.specs.Bytes.{word}
 use Rattle.layout.specs.Group.{group_size, group_at}
 use Rattle.layout.specs.Salvage.{cseg, Part, rest, listed, judged, parts, entries_from, salvage}

@@ -8,7 +8,7 @@ use lib.ListN.{length, take, drop, length-append, length-drop, take-append-drop,
 use lib.Seq.{length-take-le, take-take, take-append-le, drop-append-le}
 use borrow.Author.Tests.{ne_eqb}
 use Rattle.layout.specs.declared.edition.Edition.{Edition}
-use Rattle.layout.specs.declared.turn.Judged.TheVariants.{Sound}
+use Rattle.layout.specs.Group.{Sound}
 use Rattle.layout.specs.Bytes.{number, word, tag_at, tagged, CSEG}
 use Rattle.layout.specs.Group.{contents, payload, group_size, behind_header, group_at}
 use Rattle.layout.specs.Salvage.{cseg}

@@ -3,21 +3,20 @@
 
 ghost use Rattle.std.specs.Prelude.{◌≡◌, true, cond, ◌+◌, ◌*◌, ◌/◌, ◌≤◌, ◌<◌, leb, length, drop};
 ghost use Rattle.layout.specs.Promises.{Salvaged, EntryJudged};
-ghost use Rattle.layout.specs.Answers.{refused, sized};
-ghost use Rattle.layout.specs.Salvage.{cseg, salvage};
-ghost use Rattle.read_salvage.specs.Entries.{Skip, Next, PieceLed, EntryAt, entry_put, list_after};
+ghost use Rattle.layout.specs.Salvage.{cseg, salvage, entry_judged};
+ghost use Rattle.read_salvage.specs.Entries.{Skip, Next, PieceLed, EntryAt, entry_put, list_after, told};
 
 use layout::answer::{Counted, Measured};
 use layout::limit::BODY;
 use layout::refusal::{BAD_TAG, NO_ROOM, OVER_LIMIT};
 use layout::tag::CSEG;
-use layout::turn::Judged;
+use layout::turn::Refusal;
 
-// An entry's length and kind; its place is known where it is asked for.
+// An entry's length and kind; its place is known where it is asked for. A kind stays the documents' number, 0 for a group: it is made in two places and only stored.
 #[derive(Clone, Copy)]
 struct Found {
     size: usize,
-    kind: usize,
+    kind: u8,
 }
 
 // Whether CSEG stands at k.
@@ -32,19 +31,15 @@ fn is_cseg(s: &[u8], k: usize) -> bool
 fn skip(b: u8) -> usize
     ensures { Skip b result }
 {
-    if b == 69 {
-        return 1;
+    match b {
+        b'E' => 1,
+        b'S' => 2,
+        b'C' => 3,
+        _ => 4,
     }
-    if b == 83 {
-        return 2;
-    }
-    if b == 67 {
-        return 3;
-    }
-    4
 }
 
-// The first place from `from` on where CSEG stands, or the end.
+// The first place from `from` on where CSEG stands, or the end. k goes on by one to four places, so no range counts it.
 fn next_cseg(s: &[u8], from: usize) -> usize
     requires { from ≤ length s.now }
     ensures { Next s.now from result }
@@ -69,17 +64,14 @@ fn judge_piece(piece: &[u8]) -> Found
     ensures { PieceLed piece.now result.size result.kind }
 {
     match read_group::judge_group(piece) {
-        Judged::Unsound(number, place) => Found {
-            size: piece.len(),
-            kind: number as usize,
-        },
-        Judged::Sound(_, text, n, m) => {
+        Ok(_) => {
             let size = 8 + read_bytes::word_at(piece, 4);
-            Found {
-                size: size,
-                kind: 0,
-            }
+            Found { size, kind: 0 }
         }
+        Err(why) => Found {
+            size: piece.len(),
+            kind: why.number,
+        },
     }
 }
 
@@ -92,7 +84,7 @@ fn entry_at(body: &[u8], i: usize) -> Found
     if i < start {
         return Found {
             size: start - i,
-            kind: BAD_TAG as usize,
+            kind: BAD_TAG,
         };
     }
     let e = next_cseg(body, i + 4);
@@ -108,11 +100,12 @@ fn put_entry(list: &mut [usize], k: usize, place: usize, f: Found, stored: bool)
         let at = 3 * k;
         list[at] = place;
         list[at + 1] = f.size;
-        list[at + 2] = f.kind;
+        list[at + 2] = f.kind as usize;
     }
 }
 
-// How many entries there are; where they are stored, they are written to a lent list that has room for them all.
+// How many entries there are; where they are stored, they are written to a lent list that has room for them all. Each is as long as it says, so no range counts i.
+// One loop counts and stores, by a flag, with the entry made inside it: where counting and filling each asked for it, salvage was slower (docs/SPEED.md, "What was slow").
 fn entries(body: &[u8], list: &mut [usize], stored: bool) -> usize
     requires { stored ≡ true → 3 * length (salvage body.now) ≤ length list.old }
     ensures value { result ≡ length (salvage body.now) }
@@ -168,43 +161,47 @@ pub fn list_salvage(body: &[u8], list: &mut [usize]) -> Counted
     }
 }
 
-// An entry that is refused.
-fn refusal(number: u8, place: usize) -> Measured
-    ensures { result ≡ sized (refused number place) }
-{
-    Measured {
-        number: number,
-        place: place,
-        length: 0,
-    }
-}
-
 // Whether CSEG stands at the start.
 fn begins(entry: &[u8]) -> bool
     ensures { result ≡ cseg entry.now }
 {
-    if entry.len() < 4 {
-        return false;
+    4 <= entry.len() && is_cseg(entry, 0)
+}
+
+// The size of the group that stands at an entry's start.
+fn group_size(entry: &[u8]) -> Result<usize, Refusal>
+    ensures { told result ≡ entry_judged entry.now }
+{
+    if BODY < entry.len() {
+        return Err(Refusal {
+            number: OVER_LIMIT,
+            place: 0,
+        });
     }
-    is_cseg(entry, 0)
+    if !begins(entry) {
+        return Err(Refusal {
+            number: BAD_TAG,
+            place: 0,
+        });
+    }
+    read_group::judge_group(entry)?;
+    Ok(8 + read_bytes::word_at(entry, 4))
 }
 
 // An entry by its bytes alone: the size of the group that stands at its start, or the refusal, whose place counts from the entry's start.
 pub fn judge_entry(entry: &[u8]) -> Measured
     ensures { EntryJudged entry.now result }
 {
-    if BODY < entry.len() {
-        return refusal(OVER_LIMIT, 0);
-    }
-    if !begins(entry) {
-        return refusal(BAD_TAG, 0);
-    }
-    match read_group::judge_group(entry) {
-        Judged::Unsound(number, place) => refusal(number, place),
-        Judged::Sound(_, text, n, m) => Measured {
+    match group_size(entry) {
+        Ok(size) => Measured {
             number: 0,
             place: 0,
-            length: 8 + read_bytes::word_at(entry, 4),
+            length: size,
+        },
+        Err(why) => Measured {
+            number: why.number,
+            place: why.place,
+            length: 0,
         },
     }
 }

@@ -4,6 +4,7 @@ use mathlib.Core.Path.{◌≡◌, refl, subst}
 use mathlib.Core.Bool.{false}
 use mathlib.Core.List.{List}
 use native.Mathlib.Omega.{arith}
+use Rattle.std.specs.Prelude.{Ok, Err}
 use lib.Dec.{ltb, leb, eqb}
 use lib.ListN.{length}
 use borrow.Author.Tests.{ltb-false, leb-false}
@@ -11,10 +12,7 @@ use Rattle.layout.specs.Bytes.{word, tag_at, CASM}
 use Rattle.layout.specs.Answers.{Answer, refused, granted, after_run, number_of, place_of, value_or, Span}
 use Rattle.layout.specs.Style.{no_style, section_place, section_tagged, section_turn_at, section_turn, sections_run, casm_among, casm_found, located}
 use Rattle.layout.specs.declared.answer.Located.{Located}
-use Rattle.layout.specs.declared.turn.Run.{Run}
-use Rattle.layout.specs.declared.turn.Run.TheVariants.{Stopped, Ended}
-use Rattle.layout.specs.declared.turn.Turn.{Turn}
-use Rattle.layout.specs.declared.turn.Turn.TheVariants.{Refused, More, Done}
+use Rattle.layout.specs.Scan.{Run, Stopped, Ended, Turn, More}
 use Rattle.layout.proofs.Choices.{either}
 use Rattle.layout.proofs.Runs.{run_stopped, run_ended}
 use Rattle.read_style.specs.Walk.{Fit, Walked}
@@ -49,9 +47,8 @@ module _ (s : List ℕ) (style : no_style s ≡ false) where
   start = walk_start s (22 + word s 18) refl (track_within s style)
 
   abbrev Turned : Turn → Type 0
-  Turned (Refused number place) = Refusing s number place
-  Turned More = Unit {0}
-  Turned Done = Unit {0}
+  Turned (Err why) = Refusing s why.number why.place
+  Turned (Ok _) = Unit {0}
 
   turn_known : (n at : ℕ) → at ≤ length s → Turned (section_turn_at s n at)
   unfolding section_turn_at
@@ -82,8 +79,8 @@ module _ (s : List ℕ) (style : no_style s ≡ false) where
 
   after_known : (r : Run) → sections_run s ≡ r → Known s (after_run r (casm_among s))
   unfolding after_run
-  after_known (Stopped a b) e = sections_refuse a b e
-  after_known (Ended n) e = among_known n (sections_fit n e)
+  after_known (Err why) e = sections_refuse why.number why.place e
+  after_known (Ok n) e = among_known n (sections_fit n e)
 
 casm_known : (s : List ℕ) → Known s (casm_found s)
 unfolding casm_found

@@ -8,10 +8,12 @@ use native.Mathlib.Numerals.{add-one}
 use lib.Dec.{ltb, eqb}
 use lib.ListN.{length}
 use borrow.Author.Tests.{eq-eqb, ne_eqb, lt-ltb, le-ltb, ltb-false, eqb-true, eqb-false}
-use Rattle.layout.specs.Scan.{first}
-use Rattle.layout.specs.declared.turn.Turn.TheVariants.{Refused, More, Done}
+use Rattle.std.specs.Prelude.{Err}
+use Rattle.layout.specs.declared.turn.Refusal.{Refusal}
+use Rattle.layout.specs.Scan.{first, Turn, Refused, More, Done}
+use Rattle.layout.specs.Answers.{Answer, refused, granted}
 use Rattle.layout.specs.Bytes.{word, four, tag_at, tagged}
-use Rattle.layout.specs.Style.{section_place, section_tagged, section_turn_at, section_turn}
+use Rattle.layout.specs.Style.{section_place, section_tagged, section_turn_at, section_turn, section_read}
 use Rattle.layout.proofs.Scans.{first_end, first_here, first_next}
 use Rattle.layout.proofs.Numbers.{tagged_is}
 use Rattle.read_style.specs.Walk.{Fit, Walked}
@@ -56,21 +58,30 @@ module _ (s : List ℕ) (n at : ℕ) where
   unfolding section_turn_at
   turn_done h = rw (eq-eqb at (length s) h)
 
+  -- the refusal of its length goes on as it is
+  after : Answer ℕ → Turn → Turn
+  after (refused number place) rest = Refused number place
+  after (granted size) rest = rest
+
   module _ (o : at ≡ length s → ⊥) where
-    pub turn_cut : length s < at + 8 → section_turn_at s n at ≡ Refused 2 at
-    unfolding section_turn_at
-    turn_cut h = rw (ne_eqb at (length s) o, lt-ltb (length s) (at + 8) h)
+    turn_read : section_turn_at s n at ≡ after (section_read s at) (cond (ltb (section_tagged s n (tag_at s at)) n) (Refused 4 at) More)
+    unfolding section_turn_at section_read after
+    turn_read = rw (ne_eqb at (length s) o) (go (ltb (length s) (at + 8)) (ltb (length s) (at + 8 + word s (at + 4))) _)
+      where
+        go : (a b : Bool) (t : Turn) → cond a (Refused 2 at) (cond b (Refused 2 at) t) ≡ after (cond a (refused 2 at) (cond b (refused 2 at) (granted (word s (at + 4))))) t
+        go true b t = refl
+        go false true t = refl
+        go false false t = refl
 
-    module _ (h : at + 8 ≤ length s) where
-      pub turn_past : length s < at + 8 + word s (at + 4) → section_turn_at s n at ≡ Refused 2 at
-      unfolding section_turn_at
-      turn_past l = rw (ne_eqb at (length s) o, le-ltb (length s) (at + 8) h, lt-ltb (length s) (at + 8 + word s (at + 4)) l)
+    pub turn_cut : (why : Refusal) → refused why.number why.place ≡ section_read s at → section_turn_at s n at ≡ Err why
+    unfolding after
+    turn_cut why e = turn_read ∙ rw (← e)
 
-      -- seen before, or not
-      pub turn_last : at + 8 + word s (at + 4) ≤ length s → (m : ℕ) → tag_at s at ≡ four m → (b : Bool) → ltb (section_tagged s n (four m)) n ≡ b
-          → section_turn_at s n at ≡ cond b (Refused 4 at) More
-      unfolding section_turn_at
-      turn_last l m t b q = rw (ne_eqb at (length s) o, le-ltb (length s) (at + 8) h, le-ltb (length s) (at + 8 + word s (at + 4)) l, t, q)
+    -- seen before, or not
+    pub turn_last : (size : ℕ) → granted size ≡ section_read s at → (m : ℕ) → tag_at s at ≡ four m → (b : Bool) → ltb (section_tagged s n (four m)) n ≡ b
+        → section_turn_at s n at ≡ cond b (Refused 4 at) More
+    unfolding after
+    turn_last size e m t b q = turn_read ∙ rw (← e, t, q)
 
 -- ---- a turn that goes on
 

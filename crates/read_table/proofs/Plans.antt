@@ -1,9 +1,9 @@
 -- What a plan for reading a group's records says: one law for each way out. The records of a group that was found are those that stand where it says.
 use Prim.Native.Nat.{ℕ, ◌+◌, ◌*◌, ◌≤◌, ◌<◌}
 use native.Mathlib.Omega.{arith}
-use mathlib.Core.Path.{◌≡◌, sym, ap, ◌∙◌}
+use mathlib.Core.Path.{◌≡◌, ◌∙◌}
 use mathlib.Core.Bool.{cond}
-use mathlib.Core.List.{List, []}
+use mathlib.Core.List.{List}
 use lib.Dec.{ltb}
 use lib.ListN.{length, drop}
 use borrow.Author.Tests.{lt-ltb, le-ltb}
@@ -20,11 +20,12 @@ use Rattle.layout.proofs.Ctabs.{place_before}
 use Rattle.layout.proofs.RecordBytes.{records_there}
 use Rattle.layout.proofs.Accepted.{body_accepted}
 use Rattle.layout.proofs.Sixteen.{group_cntts}
-use Rattle.read_find.specs.declared.Search.TheVariants.{Refused, Missing}
-use Rattle.read_find.specs.Find.{group_located}
-use Rattle.read_find.proofs.AskLaws.{There, there_within, of_refused, of_missing, of_found}
+use Rattle.std.specs.Prelude.{Result, Ok, Err}
+use Rattle.layout.specs.declared.turn.Refusal.{Refusal}
+use Rattle.read_find.specs.Find.{group_located, told}
+use Rattle.read_find.proofs.AskLaws.{There, there_within, of_told, of_found}
 use Rattle.read_table.specs.declared.Reading.{Reading}
-use Rattle.read_table.specs.Reading.{no_reading, told_of, planned_record, ReadingPlanned}
+use Rattle.read_table.specs.Reading.{told_of, planned_record, ReadingGranted, ReadingPlanned}
 
 -- ---- a group that was found
 
@@ -48,19 +49,9 @@ found_few s g x there =
 -- ---- the ways out
 
 module _ (s : List ℕ) (g room : ℕ) where
-  pub read_refused : (a b : ℕ) → group_located s g ≡ Refused a b → records_read s g room ≡ refused a b
+  pub read_refused : (why : Refusal) → told 16 (group_located s g) ≡ Err why → records_read s g room ≡ refused why.number why.place
   unfolding records_read
-  read_refused a b h = of_refused s g _ a b h
-
-  pub read_missing : group_located s g ≡ Missing → records_read s g room ≡ refused 16 0
-  unfolding records_read
-  read_missing h = of_missing s g _ h
-
-  -- nothing to read
-  pub planned_no : (r : Reading) (a b : ℕ) → r ≡ no_reading a b → records_read s g room ≡ refused a b → ReadingPlanned s g room r
-  unfolding number_of place_of value_or rows
-  planned_no r a b e q =
-      rw e (record { number = rw q; place = rw q; records = rw q; fits = omega arith; ctabs = omega arith; cntts = omega arith; few = omega arith })
+  read_refused why h = of_told s g _ why h
 
   module _ (x : Standing) (there : There s g x) where
     -- what is asked of the group
@@ -75,34 +66,20 @@ module _ (s : List ℕ) (g room : ℕ) where
     read_short h = asked ∙ rw (lt-ltb room x.records h)
 
     pub planned_all : x.records ≤ room
-        → ReadingPlanned s g room (record { number = 0; place = 0; count = x.records; edition = x.edition; ctabs = x.ctabs; cntts = x.cntts; seconds = x.seconds })
-    unfolding number_of place_of value_or
+        → ReadingGranted s g room (record { count = x.records; edition = x.edition; ctabs = x.ctabs; cntts = x.cntts; seconds = x.seconds })
     planned_all h =
-        let q : records_read s g room ≡ granted (stand_records s x) = asked ∙ rw (le-ltb room x.records h) in
         let w = there_within s g x there in
-        record {
-          number = rw q;
-          place = rw q;
-          records = rw q;
-          fits = h;
-          ctabs = w.ctabs;
-          cntts = w.cntts;
-          few = found_few s g x there;
-        }
+        record { records = asked ∙ rw (le-ltb room x.records h); fits = h; ctabs = w.ctabs; cntts = w.cntts; few = found_few s g x there }
 
 -- ---- a plan carried out
 
 -- its answer is that of the question
-pub told_answer : (s : List ℕ) (g room : ℕ) (p : Reading) (r : Counted) → ReadingPlanned s g room p → r ≡ told_of p → r ≡ counted_all (records_read s g room)
-unfolding counted_all
-told_answer s g room p r h e =
-    let a = records_read s g room in
-    let n : p.count ≡ length (value_or [] a) = sym (ap length h.records ∙ rows_length (planned_record s p) 0 p.count) in
-    e
-    ∙ (ap (λ (m : ℕ). record { number = m; place = p.place; count = p.count }) h.number
-    ∙ (ap (λ (m : ℕ). record { number = number_of a; place = m; count = p.count }) h.place ∙ ap (λ (m : ℕ). record { number = number_of a; place = place_of a; count = m }) n))
+pub told_answer : (s : List ℕ) (g room : ℕ) (p : Result Reading Refusal) (r : Counted) → ReadingPlanned s g room p → r ≡ told_of p → r ≡ counted_all (records_read s g room)
+unfolding counted_all number_of place_of value_or
+told_answer s g room (Err why) r h e = rw (e, h)
+told_answer s g room (Ok x) r h e = rw (e, h.records, rows_length (planned_record s x) 0 x.count)
 
 -- the bounds that carrying it out needs
-module _ (s : List ℕ) (g room : ℕ) (p : Reading) (h : ReadingPlanned s g room p) (i : ℕ) (l : i < p.count) where
+module _ (s : List ℕ) (g room : ℕ) (p : Reading) (h : ReadingGranted s g room p) (i : ℕ) (l : i < p.count) where
   pub planned_within : (ctab_place p.edition p.ctabs (i + 1) ≤ length s) × ((p.cntts + 10 * p.seconds ≤ length s) × (p.seconds ≤ 16))
   planned_within = (omega (arith, h.ctabs, place_before p.edition p.ctabs i p.count l), (h.cntts, h.few))

@@ -9,12 +9,13 @@ use lib.Seq.{drop-cons, set_at, append_snoc}
 use Rattle.layout.specs.Lists.{rows}
 use Rattle.layout.specs.declared.record.Record.{Record}
 use Rattle.layout.specs.declared.answer.Counted.{Counted}
-use Rattle.layout.specs.Answers.{Answer, refused, granted, value_or, lent_after}
-use Rattle.layout.specs.Asked.{records_read}
+use Rattle.std.specs.Prelude.{Result, Ok, Err}
+use Rattle.layout.specs.declared.turn.Refusal.{Refusal}
+use Rattle.layout.specs.Answers.{lent_after}
 use Rattle.layout.specs.Promises.{RecordsRead}
 use Rattle.layout.proofs.Lists.{rows_length, rows_last}
 use Rattle.read_table.specs.declared.Reading.{Reading}
-use Rattle.read_table.specs.Reading.{told_of, planned_record, ReadingPlanned}
+use Rattle.read_table.specs.Reading.{told_of, planned_record, ReadingGranted, ReadingPlanned}
 use Rattle.read_table.proofs.Plans.{told_answer}
 
 -- ---- n stores into ys, of f 0, f 1, ..
@@ -42,15 +43,13 @@ module _ {A : Type 0} (f : ℕ → A) where
 
 -- ---- a plan carried out
 
-lent : (f : ℕ → Record) (n : ℕ) (ys : List Record) (a : Answer (List Record)) → value_or [] a ≡ rows f 0 n → filled f n ys ≡ lent_after a ys
-unfolding value_or lent_after
-lent f n ys (refused number place) e =
-    let z : 0 ≡ n = ap length e ∙ rows_length f 0 n in
-    rw (← z) (sym (filled_none f ys))
-lent f n ys (granted xs) e =
-    let z : length xs ≡ n = ap length e ∙ rows_length f 0 n in
-    rw (z, e)
+-- with no plan the table is as it was
+pub none_read : (s : List ℕ) (g : ℕ) (ys : List Record) (p : Result Reading Refusal) (r : Counted) → ReadingPlanned s g (length ys) p → ((x : Reading) → p ≡ Ok x → ⊥) → r ≡ told_of p → RecordsRead s g ys r ys
+unfolding lent_after
+none_read s g ys (Err why) r h f e = record { answer = told_answer s g (length ys) (Err why) r h e; table = rw h }
+none_read s g ys (Ok x) r h f e = absurd (f x refl)
 
-pub records_read_lem : (s : List ℕ) (g : ℕ) (ys : List Record) (p : Reading) (r : Counted) → ReadingPlanned s g (length ys) p → r ≡ told_of p → RecordsRead s g ys r (filled (planned_record s p) p.count ys)
-records_read_lem s g ys p r h e =
-    record { answer = told_answer s g (length ys) p r h e; table = lent (planned_record s p) p.count ys (records_read s g (length ys)) h.records }
+pub all_read : (s : List ℕ) (g : ℕ) (ys : List Record) (p : Reading) (r : Counted) → ReadingGranted s g (length ys) p → r ≡ told_of (Ok p) → RecordsRead s g ys r (filled (planned_record s p) p.count ys)
+unfolding lent_after
+all_read s g ys p r h e =
+    record { answer = told_answer s g (length ys) (Ok p) r h e; table = rw (h.records, rows_length (planned_record s p) 0 p.count) }

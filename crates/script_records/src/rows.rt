@@ -2,47 +2,33 @@
 use crate::blanks::blank_table;
 use crate::{put_record, record_from};
 use layout::record::Record;
-use script_text::print::{Printed, put};
-use script_words::hex::is_rec;
-use script_words::word::{is_past, next, word_at};
+use script_text::print::Printed;
+use script_words::word::Words;
 
-// The records of a line, and how many there are; 33 where the line has more, or has something else.
+// The records of a line, in a table that is blank behind them, and how many there are: side by side, as `casm_by_value::write::write_with` takes them.
 #[derive(Drop)]
 pub struct Rows {
     pub lent: usize,
     pub records: [Record; 32],
 }
 
-// The records from the word at `at` on, up to the line's end.
-pub fn take_records(line: &[u8], at: usize) -> Rows {
+// The records from the next word on, up to the line's end; None where the line has more than 32, or has something else.
+pub fn take_records(words: &mut Words<'_>) -> Option<Rows> {
     let mut records = blank_table();
-    let mut from = at;
-    let mut n: usize = 0;
-    while n < 32 && is_rec(word_at(line, from)) {
-        records[n] = record_from(word_at(line, from));
-        from = next(line, from);
-        n += 1;
-    }
-    if is_past(line, from) {
-        return Rows {
-            lent: n,
-            records: records,
+    for lent in 0..32 {
+        let Some(word) = words.word() else {
+            return Some(Rows { lent, records });
         };
+        records[lent] = record_from(word)?;
     }
-    Rows {
-        lent: 33,
-        records: records,
-    }
+    words.end()?;
+    Some(Rows { lent: 32, records })
 }
 
 // The first `count` records, a space before each.
-pub fn put_records(out: &mut Printed, used: usize, records: [Record; 32], count: usize) -> usize {
-    let mut after = used;
-    let mut i: usize = 0;
-    while i < 32 && i < count {
-        let parted = put(out, after, b' ');
-        after = put_record(out, parted, records[i]);
-        i += 1;
+pub fn put_records(out: &mut Printed, records: &[Record; 32], count: usize) {
+    for r in records.iter().take(count) {
+        out.byte(b' ');
+        put_record(out, *r);
     }
-    after
 }

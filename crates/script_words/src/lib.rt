@@ -1,4 +1,4 @@
-// The words of a script's line: numbers, BYTES, and whether a word is a REC.
+// The words of a script's line: numbers, BYTES and hex digits.
 #![tactic(auto)]
 
 pub mod bytes;

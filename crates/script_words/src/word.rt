@@ -1,92 +1,77 @@
-// Words stand between single spaces. A place past the line's end has none, and is the place behind the last word.
-ghost use Rattle.std.specs.Prelude.{◌≤◌, length};
+// Words stand between single spaces, and are taken from a line one by one.
+ghost use Rattle.std.specs.Prelude.{◌≤◌, IfSome};
 
-use check::same;
+use crate::bytes::{Room, take_bytes};
 
-// No place, and no number: more than any of a script.
-pub const NONE: usize = usize::MAX;
+// The number that a word is in decimal, where it is one below 2^32.
+pub fn number(word: &[u8]) -> Option<u32> {
+    if word.is_empty() {
+        return None;
+    }
+    let mut value = 0u32;
+    for b in word {
+        let digit = char::from(*b).to_digit(10)?;
+        value = value.checked_mul(10)?.checked_add(digit)?;
+    }
+    Some(value)
+}
 
-// Where what starts at `at` ends: at the next `mark`, or at the end of all.
-pub(crate) fn end_of(s: &[u8], at: usize, mark: u8) -> usize
-    requires { at ≤ length s.now }
-    ensures { (at ≤ result) × (result ≤ length s.now) }
-{
-    let mut i = at;
-    while i < s.len() {
-        if s[i] == mark {
-            return i;
+// What is left of a line: its words from one on, or None behind the last. What is taken is None where the word is something else, or there is none.
+#[derive(Drop)]
+pub struct Words<'a> {
+    rest: Option<&'a [u8]>,
+}
+
+impl<'a> Words<'a> {
+    pub fn of(line: &'a [u8]) -> Words<'a> {
+        Words { rest: Some(line) }
+    }
+
+    pub fn word(&mut self) -> Option<&'a [u8]> {
+        let rest = self.rest?;
+        match rest.iter().position(|b| *b == b' ') {
+            Some(end) => {
+                self.rest = Some(&rest[end + 1..]);
+                Some(&rest[..end])
+            },
+            None => {
+                self.rest = None;
+                Some(rest)
+            },
         }
-        i += 1;
     }
-    i
-}
 
-// The word that starts at `at`. Where the line has none there it is empty, as no word of a script may be.
-pub fn word_at(line: &[u8], at: usize) -> &[u8] {
-    if at > line.len() {
-        return &line[0..0];
+    // A number below 2^32.
+    pub fn number(&mut self) -> Option<usize> {
+        Some(number(self.word()?)? as usize)
     }
-    let end = end_of(line, at, b' ');
-    &line[at..end]
-}
 
-// The place of the word behind the one that starts at `at`.
-pub fn next(line: &[u8], at: usize) -> usize {
-    if at > line.len() {
-        return at;
-    }
-    end_of(line, at, b' ') + 1
-}
-
-// Whether `at` is the place behind the line's last word.
-pub fn is_past(line: &[u8], at: usize) -> bool {
-    at == line.len() + 1
-}
-
-// Which of some words a word is, counted from 0, or how many they are where it is none of them.
-pub fn position(word: &[u8], words: &[u8]) -> usize {
-    let mut k: usize = 0;
-    let mut at = 0;
-    while at <= words.len() {
-        let end = end_of(words, at, b' ');
-        if same(word, &words[at..end]) {
-            return k;
+    // A number up to `most`.
+    pub fn up_to(&mut self, most: usize) -> Option<usize>
+        ensures { IfSome result (λ n. n ≤ most) }
+    {
+        let value = self.number()?;
+        if value > most {
+            return None;
         }
-        at = end + 1;
-        k += 1;
+        Some(value)
     }
-    k
-}
 
-// A number with one digit more. NONE where there is no digit, and where the number was too large already.
-fn with_digit(value: usize, b: u8) -> usize {
-    if b < b'0' {
-        return NONE;
+    // A number up to 255.
+    pub fn byte(&mut self) -> Option<u8> {
+        u8::try_from(number(self.word()?)?).ok()
     }
-    if b > b'9' {
-        return NONE;
-    }
-    if value > 429496729 {
-        return NONE;
-    }
-    value * 10 + (b - b'0') as usize
-}
 
-// A number that is taken as one up to 255.
-pub fn byte(n: usize) -> u8 {
-    (n % 256) as u8
-}
+    // BYTES, put into the room from its start.
+    pub fn bytes<'r>(&mut self, room: &'r mut Room) -> Option<&'r mut [u8]> {
+        take_bytes(self.word()?, room)
+    }
 
-// The number that a word is in decimal. Where it is none, or none below 2^32, this is 2^32 or more.
-pub fn number(word: &[u8]) -> usize {
-    if word.len() == 0 {
-        return NONE;
+    // That no word is left.
+    pub fn end(&self) -> Option<()> {
+        if self.rest.is_some() {
+            return None;
+        }
+        Some(())
     }
-    let mut value = 0;
-    let mut i = 0;
-    while i < word.len() {
-        value = with_digit(value, word[i]);
-        i += 1;
-    }
-    value
 }

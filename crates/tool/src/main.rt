@@ -3,28 +3,25 @@
 
 use std::process::ExitCode;
 use tool_ends::{
-    CANNOT, DONE, Host, begin, complain_of, end, is_word, quoted, take_descriptors, tell,
+    Argument, Cannot, Host, Status, begin, complain_of, end, is_word, quoted, take_descriptors,
+    tell,
 };
 use tool_help::put_help;
-use tool_out::{OUTPUT, Out, flush, is_failed, text, writer};
+use tool_out::{Out, To};
 
 // No such command.
-fn refuse(rt: &impl Host, i: usize) -> u8 {
-    let mut word = tool_ends::buffer();
-    let n = tool_ends::arg(rt, i, &mut word);
+fn refuse(rt: &impl Host, i: usize) -> Cannot {
+    let word = Argument::at(rt, i);
     let mut out = begin(rt, b"");
-    text(&mut out, b"no command ");
-    quoted(&mut out, &word[..n]);
-    text(
-        &mut out,
-        b"; expected report, check, plays, note, edit, verify, page, list or help",
-    );
+    out.text(b"no command ");
+    quoted(&mut out, word.text());
+    out.text(b"; expected report, check, plays, note, edit, verify, page, list or help");
     end(rt, &mut out);
-    CANNOT
+    Cannot
 }
 
 // Answers a command that shows a file or several.
-fn show(rt: &impl Host, out: &mut Out, i: usize, from: usize) -> u8 {
+fn show(rt: &impl Host, out: &mut Out, i: usize, from: usize) -> Result<Status, Cannot> {
     if is_word(rt, i, b"report") {
         return tool_shown::report(rt, out, from);
     }
@@ -37,19 +34,19 @@ fn show(rt: &impl Host, out: &mut Out, i: usize, from: usize) -> u8 {
     if is_word(rt, i, b"list") {
         return tool_shown::list(rt, out, from);
     }
-    refuse(rt, i)
+    Err(refuse(rt, i))
 }
 
 // Answers the command that is argument i.
-fn answer(rt: &impl Host, out: &mut Out, i: usize) -> u8 {
+fn answer(rt: &impl Host, out: &mut Out, i: usize) -> Result<Status, Cannot> {
     if tool_ends::arg_count(rt) <= i {
         put_help(out);
-        return DONE;
+        return Ok(Status::Done);
     }
-    let from = tool_bytes::sum(i, 1);
+    let from = i.saturating_add(1);
     if is_word(rt, i, b"help") || is_word(rt, i, b"--help") {
         put_help(out);
-        return DONE;
+        return Ok(Status::Done);
     }
     if is_word(rt, i, b"plays") {
         return tool_part::plays::plays(rt, out, from);
@@ -67,7 +64,7 @@ fn answer(rt: &impl Host, out: &mut Out, i: usize) -> u8 {
 }
 
 // Where the first argument asks that the status is told, the command is the second.
-fn answer_first(rt: &impl Host, out: &mut Out, is_told: bool) -> u8 {
+fn answer_first(rt: &impl Host, out: &mut Out, is_told: bool) -> Result<Status, Cannot> {
     if is_told {
         return answer(rt, out, 2);
     }
@@ -77,14 +74,15 @@ fn answer_first(rt: &impl Host, out: &mut Out, is_told: bool) -> u8 {
 fn main(rt: HostRuntime) -> ExitCode {
     take_descriptors(&rt);
     let is_told = is_word(&rt, 1, b"--status-to-3");
-    let mut out = writer(rt.alloc(), OUTPUT);
-    let mut status = answer_first(&rt, &mut out, is_told);
-    flush(&rt, &mut out);
-    if is_failed(&out) {
-        status = complain_of(&rt, b"", b"standard output", b"it cannot be written");
+    let mut out = Out::new(rt.alloc(), To::Output);
+    let mut status = answer_first(&rt, &mut out, is_told).unwrap_or(Status::Cannot);
+    out.flush(&rt);
+    if out.is_failed() {
+        complain_of(&rt, b"", b"standard output", b"it cannot be written");
+        status = Status::Cannot;
     }
     if is_told {
         tell(&rt, status);
     }
-    ExitCode::from(status)
+    ExitCode::from(status.code())
 }

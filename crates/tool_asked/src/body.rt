@@ -1,11 +1,11 @@
 // A question that needs a sound body: what is said where there is none, or where the body has no such part.
 use casm::read::group_text;
-use tool_ends::{CANNOT, Host, begin, end, quoted};
-use tool_look::list::LIST;
-use tool_look::{DAMAGED, Seen, file_place};
-use tool_out::{Out, PLAIN, SHOWN, hex, number, text, text_as};
+use tool_ends::{Cannot, Host, begin, end, quoted};
+use tool_look::list::List;
+use tool_look::{Seen, Verdict};
+use tool_out::Out;
+use tool_out::shown::How;
 use tool_parts::put_parts;
-use tool_words::reasons::put_reason;
 
 // The refusal of a file whose body cannot be asked.
 pub fn complain_unsound(
@@ -13,44 +13,44 @@ pub fn complain_unsound(
     command: &[u8],
     name: &[u8],
     file: &[u8],
-    list: &[usize; LIST],
+    list: &List,
     seen: Seen,
-) -> u8 {
+) -> Cannot {
     let cause = tool_reason::cause_of(file, list, seen);
     let mut out = begin(rt, command);
-    text_as(&mut out, SHOWN, name);
-    if seen.verdict != DAMAGED {
-        text(&mut out, b": ");
-        put_reason(&mut out, PLAIN, cause.case);
+    out.text_as(How::Shown, name);
+    if seen.verdict != Verdict::Damaged {
+        out.text(b": ");
+        out.text(cause.case.words());
         end(rt, &mut out);
-        return CANNOT;
+        return Cannot;
     }
-    text(&mut out, b" is damaged: refusal ");
-    number(&mut out, cause.number as usize);
-    text(&mut out, b" at ");
-    hex(&mut out, file_place(seen));
-    text(&mut out, b": ");
-    put_reason(&mut out, PLAIN, cause.case);
-    text(&mut out, b"; see casm report ");
-    text_as(&mut out, SHOWN, name);
+    out.text(b" is damaged: refusal ");
+    out.number(cause.number as usize);
+    out.text(b" at ");
+    out.hex(seen.file_place());
+    out.text(b": ");
+    out.text(cause.case.words());
+    out.text(b"; see casm report ");
+    out.text_as(How::Shown, name);
     end(rt, &mut out);
-    CANNOT
+    Cannot
 }
 
 // The parts of all groups of a sound body.
 fn put_all_parts(out: &mut Out, body: &[u8], groups: usize) {
     for g in 0..groups {
         if 0 < g {
-            text(out, b", ");
+            out.text(b", ");
         }
-        put_parts(out, SHOWN, group_text(body, g));
+        put_parts(out, How::Shown, group_text(body, g));
     }
 }
 
 fn put_there(rt: &impl Host, out: &mut Out, name: &[u8], body: &[u8], groups: usize) {
-    text(out, b"; the parts of ");
-    text_as(out, SHOWN, name);
-    text(out, b" are ");
+    out.text(b"; the parts of ");
+    out.text_as(How::Shown, name);
+    out.text(b" are ");
     put_all_parts(out, body, groups);
     end(rt, out);
 }
@@ -62,11 +62,11 @@ pub fn complain_no_part(
     name: &[u8],
     body: &[u8],
     groups: usize,
-) -> u8 {
+) -> Cannot {
     let mut out = begin(rt, command);
-    text(&mut out, b"no PART");
+    out.text(b"no PART");
     put_there(rt, &mut out, name, body, groups);
-    CANNOT
+    Cannot
 }
 
 pub fn complain_part(
@@ -76,10 +76,10 @@ pub fn complain_part(
     name: &[u8],
     body: &[u8],
     groups: usize,
-) -> u8 {
+) -> Cannot {
     let mut out = begin(rt, command);
-    text(&mut out, b"no part ");
+    out.text(b"no part ");
     quoted(&mut out, sought);
     put_there(rt, &mut out, name, body, groups);
-    CANNOT
+    Cannot
 }

@@ -4,77 +4,93 @@
 pub mod line;
 
 use line::{put_json_line, put_line};
-use tool_asked::{Asked, next_name};
-use tool_bytes::sum;
-use tool_ends::{CANNOT, DONE, Host, NO};
-use tool_files::{FILE, READ, contents, read_file};
-use tool_look::list::LIST;
-use tool_look::look;
-use tool_out::{ERRORS, Out, byte, count, flush, flush_block, grouped, number, text, writer};
+use tool_asked::{Asked, Form, next_name};
+use tool_ends::{Argument, Host, Status};
+use tool_files::{FILE, contents, read_file};
+use tool_look::list::List;
+use tool_look::{Verdict, look};
+use tool_out::{Out, To};
 
 // What a file was: the verdicts of `tool_look`, and one that was not read.
 const KINDS: usize = 5;
 
-const UNREAD: u8 = 4;
+const ALL: [Option<Verdict>; KINDS] = [
+    Some(Verdict::Sound),
+    Some(Verdict::Damaged),
+    Some(Verdict::NoCasm),
+    Some(Verdict::NoStyle),
+    None,
+];
+
+// Where a kind stands among them.
+fn place_of(kind: Option<Verdict>) -> usize {
+    match kind {
+        Some(Verdict::Sound) => 0,
+        Some(Verdict::Damaged) => 1,
+        Some(Verdict::NoCasm) => 2,
+        Some(Verdict::NoStyle) => 3,
+        None => 4,
+    }
+}
 
 // Checks the file that a path names, and says in a line what it is.
 fn check_path(
     rt: &impl Host,
     out: &mut Out,
     path: &[u8],
-    is_json: bool,
+    form: Form,
     bytes: &mut [u8; FILE],
-    list: &mut [usize; LIST],
-) -> u8 {
-    let reading = read_file(rt, path, bytes);
-    if reading.outcome != READ {
-        line::put_unread(out, path, is_json, reading.outcome);
-        return UNREAD;
-    }
-    let file = contents(bytes, reading.length);
+    list: &mut List,
+) -> Option<Verdict> {
+    let length = match read_file(rt, path, bytes) {
+        Ok(length) => length,
+        Err(why) => {
+            line::put_unread(out, path, form, why);
+            return None;
+        }
+    };
+    let file = contents(bytes, length);
     let seen = look(file, list);
-    if is_json {
-        put_json_line(out, path, file, list, seen);
-    } else {
-        put_line(out, path, file, list, seen);
+    match form {
+        Form::Words => put_line(out, path, file, list, seen),
+        Form::Json => put_json_line(out, path, file, list, seen),
     }
-    seen.verdict
+    Some(seen.verdict)
 }
 
 fn check_argument(
     rt: &impl Host,
     out: &mut Out,
     i: usize,
-    is_json: bool,
+    form: Form,
     bytes: &mut [u8; FILE],
-    list: &mut [usize; LIST],
-) -> u8 {
-    let mut path = tool_ends::buffer();
-    let n = tool_ends::arg(rt, i, &mut path);
-    check_path(rt, out, &path[..n], is_json, bytes, list)
+    list: &mut List,
+) -> Option<Verdict> {
+    let path = Argument::at(rt, i);
+    check_path(rt, out, path.text(), form, bytes, list)
 }
 
-fn count_one(counts: &mut [usize; KINDS], kind: u8) {
-    let k = kind as usize;
+fn count_one(counts: &mut [usize; KINDS], kind: Option<Verdict>) {
+    let k = place_of(kind);
     if k < KINDS {
-        counts[k] = sum(counts[k], 1);
+        counts[k] = counts[k].saturating_add(1);
     }
 }
 
 // How far it has come, on standard error where that is a terminal, one line over the other.
 fn put_progress(rt: &impl Host, done: usize, all: usize) {
-    let mut out = writer(rt.alloc(), ERRORS);
-    text(&mut out, b"\rchecked ");
-    grouped(&mut out, done);
-    text(&mut out, b" of ");
-    grouped(&mut out, all);
-    flush(rt, &mut out);
+    let mut out = Out::new(rt.alloc(), To::Errors);
+    out.text(b"\rchecked ");
+    out.grouped(done);
+    out.text(b" of ");
+    out.grouped(all);
+    out.flush(rt);
 }
 
 fn clear_progress(rt: &impl Host) {
-    let mut out = writer(rt.alloc(), ERRORS);
-    text(&mut out, b"\r                                        \r");
-    flush(rt, &mut out);
+    let mut out = Out::new(rt.alloc(), To::Errors);
+    out.text(b"\r                                        \r");
+    out.flush(rt);
 }
 
 fn is_watched(rt: &impl Host, all: usize) -> bool {
@@ -88,16 +104,17 @@ fn check_all(
     rt: &impl Host,
     out: &mut Out,
     asked: Asked,
+    first: usize,
     bytes: &mut [u8; FILE],
-    list: &mut [usize; LIST],
+    list: &mut List,
     counts: &mut [usize; KINDS],
 ) {
     let is_watched = is_watched(rt, asked.words);
-    let mut i = asked.first;
+    let mut i = first;
     for done in 0..asked.words {
-        let kind = check_argument(rt, out, i, asked.is_json, bytes, list);
+        let kind = check_argument(rt, out, i, asked.form, bytes, list);
         count_one(counts, kind);
-        flush_block(rt, out);
+        out.flush_block(rt);
         if is_watched && (asked.words - done) % 50 == 0 {
             put_progress(rt, done, asked.words);
         }
@@ -108,65 +125,65 @@ fn check_all(
     }
 }
 
-fn status_of(counts: &[usize; KINDS]) -> u8 {
+fn status_of(counts: &[usize; KINDS]) -> Status {
     if counts[4] != 0 {
-        return CANNOT;
+        return Status::Cannot;
     }
     if counts[1] != 0 || counts[2] != 0 || counts[3] != 0 {
-        return NO;
+        return Status::No;
     }
-    DONE
+    Status::Done
 }
 
 // How many files there are of a kind, behind those before it.
-fn put_kind(out: &mut Out, counts: &[usize; KINDS], k: usize, is_json: bool) {
+fn put_kind(out: &mut Out, counts: &[usize; KINDS], k: usize, form: Form) {
     if KINDS <= k {
         return;
     }
-    let words = line::kind_words((k % 256) as u8);
-    if is_json {
-        text(out, b",\"");
-        tool_out::word(out, &words);
-        text(out, b"\":");
-        number(out, counts[k]);
+    let words = line::kind_words(ALL[k]);
+    if form == Form::Json {
+        out.text(b",\"");
+        out.text(words);
+        out.text(b"\":");
+        out.number(counts[k]);
         return;
     }
     if 0 < k {
-        byte(out, b',');
+        out.byte(b',');
     }
-    byte(out, b' ');
-    number(out, counts[k]);
-    byte(out, b' ');
-    tool_out::word(out, &words);
+    out.byte(b' ');
+    out.number(counts[k]);
+    out.byte(b' ');
+    out.text(words);
 }
 
-fn put_kinds(out: &mut Out, counts: &[usize; KINDS], is_json: bool) {
+fn put_kinds(out: &mut Out, counts: &[usize; KINDS], form: Form) {
     for k in 0..KINDS {
-        put_kind(out, counts, k, is_json);
+        put_kind(out, counts, k, form);
     }
 }
 
 // The last line.
 fn put_counts(out: &mut Out, counts: &[usize; KINDS], asked: Asked) {
-    if asked.is_json {
-        text(out, b"{\"files\":");
-        number(out, asked.words);
-        put_kinds(out, counts, true);
-        text(out, b"}\n");
+    if asked.form == Form::Json {
+        out.text(b"{\"files\":");
+        out.number(asked.words);
+        put_kinds(out, counts, Form::Json);
+        out.text(b"}\n");
         return;
     }
-    count(out, asked.words, b"file", b"files");
-    byte(out, b':');
-    put_kinds(out, counts, false);
-    text(out, b"\n");
+    out.count(asked.words, b"file", b"files");
+    out.byte(b':');
+    put_kinds(out, counts, Form::Words);
+    out.text(b"\n");
 }
 
-// `casm check FILE..`.
-pub fn check(rt: &impl Host, out: &mut Out, asked: Asked) -> u8 {
+// `casm check FILE..`, the files from argument `first` on.
+pub fn check(rt: &impl Host, out: &mut Out, asked: Asked, first: usize) -> Status {
     let mut bytes = tool_files::room();
-    let mut list = tool_look::list::room();
+    let mut list = List::new();
     let mut counts = [0usize; KINDS];
-    check_all(rt, out, asked, &mut bytes, &mut list, &mut counts);
+    check_all(rt, out, asked, first, &mut bytes, &mut list, &mut counts);
     put_counts(out, &counts, asked);
     status_of(&counts)
 }

@@ -1,105 +1,102 @@
 // A line for a file: what it is, or why it was not read.
-use tool_bytes::sum;
-use tool_files::outcome_words;
+use tool_asked::Form;
+use tool_files::Unread;
 use tool_json::put_editions;
-use tool_look::list::LIST;
+use tool_look::list::List;
 use tool_look::totals::{Totals, editions, totals_of};
-use tool_look::{DAMAGED, SOUND, Seen, body_of, file_place, verdict_words};
-use tool_out::{Out, SHOWN, count, end_line, hex, number, text, text_as, word};
+use tool_look::{Seen, Verdict};
+use tool_out::Out;
+use tool_out::shown::How;
 use tool_parts::put_json;
 use tool_words::names;
 
 // The kinds of files in words: the verdicts, and one that was not read.
-pub fn kind_words(kind: u8) -> [u8; 16] {
-    if kind < 4 {
-        return verdict_words(kind);
+pub fn kind_words(kind: Option<Verdict>) -> &'static [u8] {
+    match kind {
+        Some(verdict) => verdict.words(),
+        None => b"not read",
     }
-    *b"not read        "
 }
 
 fn put_sound(out: &mut Out, totals: Totals) {
-    text(out, b"sound, ");
-    count(out, totals.sound, b"group", b"groups");
-    text(out, b", ");
-    let name = names::edition(editions(totals));
-    word(out, &name);
+    out.text(b"sound, ");
+    out.count(totals.sound, b"group", b"groups");
+    out.text(b", ");
+    out.text(names::edition(editions(totals)));
 }
 
 fn put_damaged(out: &mut Out, seen: Seen, totals: Totals) {
-    text(out, b"damaged: ");
-    if seen.is_body {
-        number(out, sum(totals.damaged, totals.loose));
-        text(out, b" of ");
-        count(out, seen.count, b"entry", b"entries");
+    out.text(b"damaged: ");
+    if seen.found.is_some() {
+        out.number(totals.damaged.saturating_add(totals.loose));
+        out.text(b" of ");
+        out.count(seen.count(), b"entry", b"entries");
     } else {
-        text(out, b"sections");
+        out.text(b"sections");
     }
-    text(out, b", refusal ");
-    number(out, seen.number as usize);
-    text(out, b" at ");
-    hex(out, file_place(seen));
+    out.text(b", refusal ");
+    out.number(seen.number as usize);
+    out.text(b" at ");
+    out.hex(seen.file_place());
 }
 
-pub fn put_line(out: &mut Out, name: &[u8], file: &[u8], list: &[usize; LIST], seen: Seen) {
-    let body = body_of(file, seen.tag, seen.length);
-    let totals = totals_of(body, list, seen.count);
-    text_as(out, SHOWN, name);
-    text(out, b": ");
-    if seen.verdict == SOUND {
+pub fn put_line(out: &mut Out, name: &[u8], file: &[u8], list: &List, seen: Seen) {
+    let body = seen.body(file);
+    let totals = totals_of(body, list, seen.count());
+    out.text_as(How::Shown, name);
+    out.text(b": ");
+    if seen.verdict == Verdict::Sound {
         put_sound(out, totals);
-        end_line(out);
+        out.end_line();
         return;
     }
-    if seen.verdict == DAMAGED {
+    if seen.verdict == Verdict::Damaged {
         put_damaged(out, seen, totals);
-        end_line(out);
+        out.end_line();
         return;
     }
-    let words = verdict_words(seen.verdict);
-    word(out, &words);
-    end_line(out);
+    out.text(seen.verdict.words());
+    out.end_line();
 }
 
 fn put_begin(out: &mut Out, name: &[u8], verdict: &[u8]) {
-    text(out, b"{\"file\":");
+    out.text(b"{\"file\":");
     put_json(out, name);
-    text(out, b",\"verdict\":\"");
-    word(out, verdict);
-    text(out, b"\",\"groups\":");
+    out.text(b",\"verdict\":\"");
+    out.text(verdict);
+    out.text(b"\",\"groups\":");
 }
 
-pub fn put_json_line(out: &mut Out, name: &[u8], file: &[u8], list: &[usize; LIST], seen: Seen) {
-    let body = body_of(file, seen.tag, seen.length);
-    let totals = totals_of(body, list, seen.count);
-    let words = verdict_words(seen.verdict);
-    put_begin(out, name, &words);
-    number(out, totals.sound);
-    text(out, b",\"editions\":");
+pub fn put_json_line(out: &mut Out, name: &[u8], file: &[u8], list: &List, seen: Seen) {
+    let body = seen.body(file);
+    let totals = totals_of(body, list, seen.count());
+    put_begin(out, name, seen.verdict.words());
+    out.number(totals.sound);
+    out.text(b",\"editions\":");
     put_editions(out, editions(totals));
-    if seen.verdict == SOUND {
-        text(out, b",\"refusal\":null}\n");
+    if seen.verdict == Verdict::Sound {
+        out.text(b",\"refusal\":null}\n");
         return;
     }
-    text(out, b",\"refusal\":{\"number\":");
-    number(out, seen.number as usize);
-    text(out, b",\"place\":");
-    number(out, file_place(seen));
-    text(out, b"}}\n");
+    out.text(b",\"refusal\":{\"number\":");
+    out.number(seen.number as usize);
+    out.text(b",\"place\":");
+    out.number(seen.file_place());
+    out.text(b"}}\n");
 }
 
 // A file that was not read.
-pub fn put_unread(out: &mut Out, name: &[u8], is_json: bool, outcome: u8) {
-    let kind = kind_words(4);
-    if is_json {
-        put_begin(out, name, &kind);
-        text(out, b"0,\"editions\":[],\"refusal\":null}\n");
+pub fn put_unread(out: &mut Out, name: &[u8], form: Form, why: Unread) {
+    let kind = kind_words(None);
+    if form == Form::Json {
+        put_begin(out, name, kind);
+        out.text(b"0,\"editions\":[],\"refusal\":null}\n");
         return;
     }
-    text_as(out, SHOWN, name);
-    text(out, b": ");
-    word(out, &kind);
-    text(out, b": ");
-    let words = outcome_words(outcome);
-    word(out, &words);
-    end_line(out);
+    out.text_as(How::Shown, name);
+    out.text(b": ");
+    out.text(kind);
+    out.text(b": ");
+    out.text(why.words());
+    out.end_line();
 }

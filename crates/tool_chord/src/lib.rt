@@ -5,115 +5,91 @@ pub mod note;
 pub mod wrong;
 
 pub use note::{parse_channel, parse_note};
-use tool_bytes::{byte_at, part, rest, sum};
-use tool_out::{Out, trimmed_length};
-use tool_words::masks::TYPES;
+use tool_bytes::{byte_at, part};
+use tool_out::Out;
 use tool_words::{names, put_root};
 pub use wrong::{complain_channel, complain_chord, complain_note};
-
-// How the reading of a chord went.
-pub const FINE: u8 = 0;
-
-pub const NO_ROOT: u8 = 1;
-
-pub const NO_TYPE: u8 = 2;
 
 #[derive(Clone, Copy)]
 pub struct Chord {
     pub root: u8,
     pub kind: u8,
-    pub outcome: u8,
 }
 
-// A letter and what stands behind it: half steps above the C below, plus 12 so that Cb has a number too, and how many bytes it has; 0 bytes where there is no letter.
+// Why a text is no chord.
+#[derive(Clone, Copy)]
+pub enum NoChord {
+    NoRoot,
+    NoType,
+}
+
+// A letter and what stands behind it: half steps above the C below, plus 12 so that Cb has a number too, and how many bytes it has.
 #[derive(Clone, Copy)]
 pub struct Letter {
     pub steps: usize,
     pub length: usize,
 }
 
-const LETTERS: [usize; 7] = [21, 23, 12, 14, 16, 17, 19];
-
-// Those of a letter alone; 0 where it is none.
-fn steps_of(letter: u8) -> usize {
-    let letters = LETTERS;
-    if letter < b'A' {
-        return 0;
-    }
-    let n = rest(letter as usize, 65);
-    if n < 7 {
-        return letters[n];
-    }
-    0
-}
-
-fn letter_with(steps: usize, length: usize) -> Letter {
-    Letter {
-        steps: steps,
-        length: length,
+impl Letter {
+    // What stands behind it in its text.
+    pub fn behind<'a>(self, text: &'a [u8]) -> &'a [u8] {
+        part(text, self.length, text.len())
     }
 }
 
-pub fn letter_of(text: &[u8]) -> Letter {
-    let steps = steps_of(byte_at(text, 0));
-    if steps == 0 {
-        return letter_with(0, 0);
+// The steps of a letter alone.
+fn steps_of(letter: u8) -> Option<usize> {
+    match letter {
+        b'C' => Some(12),
+        b'D' => Some(14),
+        b'E' => Some(16),
+        b'F' => Some(17),
+        b'G' => Some(19),
+        b'A' => Some(21),
+        b'B' => Some(23),
+        _ => None,
     }
-    let second = byte_at(text, 1);
-    if second == b'#' {
-        return letter_with(sum(steps, 1), 2);
-    }
-    if second == b'b' {
-        return letter_with(rest(steps, 1), 2);
-    }
-    letter_with(steps, 1)
+}
+
+pub fn letter_of(text: &[u8]) -> Option<Letter> {
+    let steps = steps_of(byte_at(text, 0))?;
+    Some(match byte_at(text, 1) {
+        b'#' => Letter {
+            steps: steps.saturating_add(1),
+            length: 2,
+        },
+        b'b' => Letter {
+            steps: steps.saturating_sub(1),
+            length: 2,
+        },
+        _ => Letter { steps, length: 1 },
+    })
 }
 
 // What stands behind the root.
 pub fn behind_root<'a>(text: &'a [u8]) -> &'a [u8] {
-    let letter = letter_of(text);
-    part(text, letter.length, text.len())
-}
-
-fn is_kind(text: &[u8], kind: u8) -> bool {
-    let name = names::chord(kind);
-    let n = trimmed_length(&name);
-    check::same(text, part(&name, 0, n))
-}
-
-// The chord type of a text; 34 where it is none.
-fn kind_of(text: &[u8]) -> usize {
-    if text.len() == 0 {
-        return 0;
-    }
-    for k in 0..34usize {
-        if is_kind(text, (k % 256) as u8) {
-            return k;
-        }
-    }
-    34
-}
-
-fn chord_with(root: u8, kind: usize, outcome: u8) -> Chord {
-    Chord {
-        root: root,
-        kind: (kind % 256) as u8,
-        outcome: outcome,
+    match letter_of(text) {
+        Some(letter) => letter.behind(text),
+        None => text,
     }
 }
 
-// A letter A-G, then # or b or neither, then a chord type; none is Maj.
-pub fn parse_chord(text: &[u8]) -> Chord {
-    let letter = letter_of(text);
-    if letter.length == 0 {
-        return chord_with(0, 0, NO_ROOT);
+// The chord type of a text; none is Maj.
+fn kind_of(text: &[u8]) -> Option<u8> {
+    if text.is_empty() {
+        return Some(0);
     }
-    let root = (letter.steps % 12) as u8;
-    let kind = kind_of(behind_root(text));
-    if kind < TYPES {
-        return chord_with(root, kind, FINE);
-    }
-    chord_with(root, 0, NO_TYPE)
+    (0..34).find(|&kind| text == names::chord(kind))
+}
+
+// A letter A-G, then # or b or neither, then a chord type.
+pub fn parse_chord(text: &[u8]) -> Result<Chord, NoChord> {
+    let letter = letter_of(text).ok_or(NoChord::NoRoot)?;
+    let kind = kind_of(letter.behind(text)).ok_or(NoChord::NoType)?;
+    Ok(Chord {
+        root: (letter.steps % 12) as u8,
+        kind,
+    })
 }
 
 // A chord as it is written: Maj is left off.

@@ -1,49 +1,51 @@
 // What is told on standard error of a chord, a note or a channel that is none.
-use crate::{NO_ROOT, behind_root};
-use tool_ends::{CANNOT, Host, begin, end, quoted};
-use tool_out::{Out, text};
+use crate::{NoChord, behind_root};
+use tool_ends::{Cannot, Host, begin, end, quoted};
+use tool_out::Out;
 use tool_words::put_chord;
 
 // The chord types behind the first.
 fn put_types(out: &mut Out) {
-    for k in 1..34usize {
-        text(out, b", ");
-        put_chord(out, (k % 256) as u8);
+    for kind in 1..34 {
+        out.text(b", ");
+        put_chord(out, kind);
     }
 }
 
 // Why a text is no chord, as `parse_chord` told.
-pub fn complain_chord(rt: &impl Host, command: &[u8], given: &[u8], outcome: u8) -> u8 {
+pub fn complain_chord(rt: &impl Host, command: &[u8], given: &[u8], why: NoChord) -> Cannot {
     let mut out = begin(rt, command);
-    if outcome == NO_ROOT {
-        text(&mut out, b"no root in ");
-        quoted(&mut out, given);
-        text(&mut out, b"; a chord begins with A-G, then # or b");
-        end(rt, &mut out);
-        return CANNOT;
+    match why {
+        NoChord::NoRoot => {
+            out.text(b"no root in ");
+            quoted(&mut out, given);
+            out.text(b"; a chord begins with A-G, then # or b");
+        }
+        NoChord::NoType => {
+            out.text(b"no chord type ");
+            quoted(&mut out, behind_root(given));
+            out.text(b"; the types are Maj (or nothing)");
+            put_types(&mut out);
+        }
     }
-    text(&mut out, b"no chord type ");
-    quoted(&mut out, behind_root(given));
-    text(&mut out, b"; the types are Maj (or nothing)");
-    put_types(&mut out);
     end(rt, &mut out);
-    CANNOT
+    Cannot
 }
 
-pub fn complain_note(rt: &impl Host, command: &[u8], given: &[u8]) -> u8 {
+pub fn complain_note(rt: &impl Host, command: &[u8], given: &[u8]) -> Cannot {
     let mut out = begin(rt, command);
-    text(&mut out, b"no note ");
+    out.text(b"no note ");
     quoted(&mut out, given);
-    text(&mut out, b"; a note is C-2 to G8, or 0-127; C3 is 60");
+    out.text(b"; a note is C-2 to G8, or 0-127; C3 is 60");
     end(rt, &mut out);
-    CANNOT
+    Cannot
 }
 
-pub fn complain_channel(rt: &impl Host, command: &[u8], given: &[u8]) -> u8 {
+pub fn complain_channel(rt: &impl Host, command: &[u8], given: &[u8]) -> Cannot {
     let mut out = begin(rt, command);
-    text(&mut out, b"no channel ");
+    out.text(b"no channel ");
     quoted(&mut out, given);
-    text(&mut out, b"; channels are 1-16");
+    out.text(b"; channels are 1-16");
     end(rt, &mut out);
-    CANNOT
+    Cannot
 }

@@ -6,37 +6,33 @@ pub mod target;
 use casm::bytes::record_of;
 use casm::editing::edit_file;
 use layout::answer::Answered;
-use layout::edition::Edition;
 use layout::lock::Override;
-use layout::record::{Record, SecondTable, SourceChannel};
+use layout::record::{Record, SourceChannel};
 use layout::refusal::OUT_OF_RANGE;
-use target::{save_as, target_wrong};
-use tool_asked::is_read;
-use tool_bytes::{part, rest, sum};
+use target::{check_target, save_as};
+use tool_asked::read;
+use tool_bytes::part;
+use tool_change::Change;
 use tool_change::told::{count_changed, put_changes};
-use tool_change::{NEW, OLD, fill, record_bytes};
 use tool_edit_words::fields::set_fields;
-use tool_edit_words::{Asked, asked_from, complain_asked};
-use tool_ends::{CANNOT, DONE, Host, begin, end};
+use tool_edit_words::{Asked, asked_from, file_asked};
+use tool_ends::{Argument, Cannot, Host, Status, begin, end};
 use tool_files::{FILE, contents};
-use tool_out::{Out, PLAIN, SHOWN, count, end_line, number, text, text_as};
+use tool_out::Out;
+use tool_out::shown::How;
+use tool_reason::range::Chunk;
 use tool_reason::{cause_of_file, range};
-use tool_rows::row::{ROWS, byte_of, channel, is_second, room, voice};
+use tool_rows::row::Row;
 use tool_sought::seek;
 use tool_words::fields::put_field;
 use tool_words::put_voice_or_none;
-use tool_words::reasons::put_reason;
 
 // The record of the row that is to be. Its Cntt is not looked at.
-fn new_record(rows: &[u8; ROWS]) -> Record {
-    let bytes = record_bytes(rows, NEW);
-    if is_second(rows, NEW) {
-        return record_of(Edition::Second, bytes, SecondTable::Absent, 0);
-    }
-    record_of(Edition::First, bytes, SecondTable::Absent, 0)
+fn new_record(new: &Row) -> Record {
+    record_of(new.edition, new.bytes, None, 0)
 }
 
-fn override_of(asked: Asked) -> Override {
+fn override_of(asked: &Asked) -> Override {
     if asked.is_override {
         return Override::Asked;
     }
@@ -44,47 +40,47 @@ fn override_of(asked: Asked) -> Override {
 }
 
 // Which row of the ranges a record has.
-fn chunk_of(is_second: bool) -> u8 {
+fn chunk_of(is_second: bool) -> Chunk {
     if is_second {
-        return range::CTB2;
+        return Chunk::Ctb2;
     }
-    range::CTAB
+    Chunk::Ctab
 }
 
 fn put_chunk(out: &mut Out, is_second: bool) {
     if is_second {
-        text(out, b" of a Ctb2), allowed is ");
+        out.text(b" of a Ctb2), allowed is ");
         return;
     }
-    text(out, b" of a Ctab), allowed is ");
+    out.text(b" of a Ctab), allowed is ");
 }
 
 // The byte k of the new record that is out of its range.
-fn put_out_of_range(out: &mut Out, rows: &[u8; ROWS], k: usize) {
-    let second = is_second(rows, NEW);
+fn put_out_of_range(out: &mut Out, new: &Row, k: usize) {
+    let second = new.is_second();
     put_field(out, second, k);
-    text(out, b" is ");
-    range::put_value(out, byte_of(rows, NEW, k) as usize);
-    text(out, b" (byte ");
-    number(out, k);
+    out.text(b" is ");
+    range::put_value(out, new.byte(k) as usize);
+    out.text(b" (byte ");
+    out.number(k);
     put_chunk(out, second);
-    range::put_ranges(out, chunk_of(second), k, byte_of(rows, NEW, rest(k, 1)));
+    range::put_ranges(out, chunk_of(second), k, new.byte(k.saturating_sub(1)));
 }
 
 // Why the edit is refused.
-fn complain_edit(rt: &impl Host, rows: &[u8; ROWS], file: &[u8], answered: Answered) -> u8 {
+fn complain_edit(rt: &impl Host, new: &Row, file: &[u8], answered: Answered) -> Cannot {
     let cause = cause_of_file(file, answered.number, answered.place);
     let mut out = begin(rt, b"edit");
-    text(&mut out, b"refusal ");
-    number(&mut out, answered.number as usize);
-    text(&mut out, b": ");
-    put_reason(&mut out, PLAIN, cause.case);
+    out.text(b"refusal ");
+    out.number(answered.number as usize);
+    out.text(b": ");
+    out.text(cause.case.words());
     if answered.number == OUT_OF_RANGE {
-        text(&mut out, b": ");
-        put_out_of_range(&mut out, rows, answered.place);
+        out.text(b": ");
+        put_out_of_range(&mut out, new, answered.place);
     }
     end(rt, &mut out);
-    CANNOT
+    Cannot
 }
 
 fn refused() -> Answered {
@@ -129,62 +125,51 @@ fn size_of(is_second: bool) -> usize {
     layout::size::HELD
 }
 
-// Finds the channel, and sets in a row what is asked for.
+// An argument that may be missing, and is empty then.
+fn argument(rt: &impl Host, i: Option<usize>) -> Argument {
+    Argument::at(rt, i.unwrap_or(usize::MAX))
+}
+
+// Finds the channel, and sets what is asked for.
 fn prepare(
     rt: &impl Host,
-    rows: &mut [u8; ROWS],
-    asked: Asked,
+    asked: &Asked,
     path: &[u8],
     name: &[u8],
     file: &[u8],
-) -> u8 {
-    let mut given = tool_ends::buffer();
-    let n = tool_ends::arg(rt, asked.channel, &mut given);
-    let m = given_length(asked.channel, n);
-    let sought = seek(rt, b"edit", path, file, name, part(&given, 0, m));
-    if !sought.is_found {
-        return CANNOT;
-    }
-    fill(
-        rows,
-        part(file, sought.at, size_of(sought.is_second)),
-        sought.is_second,
-    );
-    set_fields(rt, rows, asked)
-}
-
-// Argument 0 is the program's own name: where an argument is missing, nothing is given.
-fn given_length(i: usize, n: usize) -> usize {
-    if i == 0 {
-        return 0;
-    }
-    n
+) -> Result<Change, Cannot> {
+    let given = argument(rt, asked.channel);
+    let sought = seek(rt, b"edit", path, file, name, given.text())?;
+    let record = part(file, sought.at, size_of(sought.is_second));
+    let mut change = Change::none(record, sought.is_second);
+    set_fields(rt, &mut change.new, asked)?;
+    Ok(change)
 }
 
 // What changed.
-fn put_told(out: &mut Out, name: &[u8], rows: &[u8; ROWS]) {
-    text_as(out, SHOWN, name);
-    text(out, b", ch ");
-    number(out, channel(rows, OLD));
-    text(out, b" ");
-    put_voice_or_none(out, voice(rows, OLD));
-    text(out, b": ");
-    let n = count_changed(rows);
+fn put_told(out: &mut Out, name: &[u8], change: &Change) {
+    out.text_as(How::Shown, name);
+    out.text(b", ch ");
+    out.number(change.old.channel());
+    out.text(b" ");
+    put_voice_or_none(out, change.old.voice());
+    out.text(b": ");
+    let n = count_changed(change);
     if n == 0 {
-        text(out, b"nothing changed\n");
+        out.text(b"nothing changed\n");
         return;
     }
-    count(out, n, b"field changed", b"fields changed");
-    end_line(out);
-    put_changes(out, rows);
+    out.count(n, b"field changed", b"fields changed");
+    out.end_line();
+    put_changes(out, change);
 }
 
 fn put_written(out: &mut Out, target: &[u8], length: usize) {
-    text_as(out, SHOWN, target);
-    text(out, b": ");
-    count(out, length, b"byte", b"bytes");
-    text(out, b" written");
-    end_line(out);
+    out.text_as(How::Shown, target);
+    out.text(b": ");
+    out.count(length, b"byte", b"bytes");
+    out.text(b" written");
+    out.end_line();
 }
 
 // The edit itself, and then the saving: nothing is written unless the edit is accepted.
@@ -194,87 +179,59 @@ fn edit_ready(
     path: &[u8],
     target: &[u8],
     name: &[u8],
-    rows: &[u8; ROWS],
+    change: &Change,
     over: Override,
     bytes: &mut [u8; FILE],
     length: usize,
-) -> u8 {
+) -> Result<Status, Cannot> {
     let answered = edit_bytes(
         bytes,
         length,
         name,
-        byte_of(rows, OLD, 0),
-        new_record(rows),
+        change.old.byte(0),
+        new_record(&change.new),
         over,
     );
     if answered.number != 0 {
-        return complain_edit(rt, rows, contents(bytes, length), answered);
+        return Err(complain_edit(rt, &change.new, contents(bytes, length), answered));
     }
-    let status = save_as(rt, path, target, contents(bytes, length));
-    if status != DONE {
-        return status;
-    }
-    put_told(out, name, rows);
+    save_as(rt, path, target, contents(bytes, length))?;
+    put_told(out, name, change);
     put_written(out, target, length);
-    DONE
+    Ok(Status::Done)
 }
 
 fn edit_to(
     rt: &impl Host,
     out: &mut Out,
-    asked: Asked,
+    asked: &Asked,
     path: &[u8],
     target: &[u8],
     name: &[u8],
-) -> u8 {
+) -> Result<Status, Cannot> {
     let mut bytes = tool_files::room();
-    let mut length: usize = 0;
-    if !is_read(rt, path, &mut bytes, &mut length) {
-        return CANNOT;
-    }
-    let mut rows = room();
-    let status = prepare(rt, &mut rows, asked, path, name, contents(&bytes, length));
-    if status != DONE {
-        return status;
-    }
-    let wrong = target_wrong(rt, path, target, asked.is_in_place);
-    if wrong != DONE {
-        return wrong;
-    }
+    let length = read(rt, path, &mut bytes)?;
+    let change = prepare(rt, asked, path, name, contents(&bytes, length))?;
+    check_target(rt, path, target, asked.is_in_place)?;
     edit_ready(
         rt,
         out,
         path,
         target,
         name,
-        &rows,
+        &change,
         override_of(asked),
         &mut bytes,
         length,
     )
 }
 
-// The argument that names the file to write: with --in-place FILE itself.
-fn target_of(asked: Asked) -> usize {
-    if asked.target == 0 {
-        return asked.file;
-    }
-    asked.target
-}
-
-// `casm edit FILE PART CHANNEL FIELD=VALUE.. -o OUT`, the arguments from number `first` on.
-pub fn edit(rt: &impl Host, out: &mut Out, first: usize) -> u8 {
+// `casm edit FILE PART CHANNEL FIELD=VALUE.. -o OUT`, the arguments from number `first` on. With --in-place the file to write is FILE itself.
+pub fn edit(rt: &impl Host, out: &mut Out, first: usize) -> Result<Status, Cannot> {
     let asked = asked_from(rt, first);
-    let wrong = complain_asked(rt, asked);
-    if wrong != DONE {
-        return wrong;
-    }
-    let mut path = tool_ends::buffer();
-    let mut target = tool_ends::buffer();
-    let mut name = tool_ends::buffer();
-    let n = tool_ends::arg(rt, asked.file, &mut path);
-    let m = tool_ends::arg(rt, target_of(asked), &mut target);
-    let k = tool_ends::arg(rt, asked.part, &mut name);
-    let j = given_length(asked.part, k);
-    edit_to(rt, out, asked, &path[..n], &target[..m], part(&name, 0, j))
+    let file = file_asked(rt, &asked)?;
+    let path = Argument::at(rt, file);
+    let target = Argument::at(rt, asked.target.unwrap_or(file));
+    let name = argument(rt, asked.part);
+    edit_to(rt, out, &asked, path.text(), target.text(), name.text())
 }

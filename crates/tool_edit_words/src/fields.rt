@@ -1,47 +1,41 @@
 // The fields and values that an edit is asked for, set in a row.
-use crate::{Asked, has_fields, is_field};
-use tool_bytes::{part, sum};
-use tool_change::{NEW, rule_of, set_field};
-use tool_ends::{CANNOT, DONE, Host, begin, complain, end, quoted};
-use tool_field::{
-    ALL_SETS, FIRST_OF_SET, Field, NO_FIELD, SECOND_TABLE, TABLE_FIELD, is_second_only, kind_of,
-    parse_field, put_called, put_fields,
-};
-use tool_out::{Out, text};
-use tool_rows::row::{ROWS, is_second};
+use crate::Asked;
+use tool_bytes::part;
+use tool_change::{Unset, rule_of, set_field};
+use tool_ends::{Argument, Cannot, Host, begin, complain, end, quoted};
+use tool_field::{Field, Named, NoField, Set, parse_field, put_fields};
+use tool_out::Out;
+use tool_rows::row::Row;
 use tool_value::expected::put_expected;
 
-fn end_fields(rt: &impl Host, out: &mut Out, is_second: bool) -> u8 {
-    text(out, b"; the fields are ");
+fn end_fields(rt: &impl Host, out: &mut Out, is_second: bool) -> Cannot {
+    out.text(b"; the fields are ");
     put_fields(out, is_second);
     end(rt, out);
-    CANNOT
+    Cannot
 }
 
-fn complain_no_field(rt: &impl Host, is_second: bool) -> u8 {
+fn complain_no_field(rt: &impl Host, is_second: bool) -> Cannot {
     let mut out = begin(rt, b"edit");
-    text(&mut out, b"no FIELD=VALUE");
+    out.text(b"no FIELD=VALUE");
     end_fields(rt, &mut out, is_second)
 }
 
-fn complain_unknown(rt: &impl Host, name: &[u8], is_second: bool) -> u8 {
+fn complain_unknown(rt: &impl Host, name: &[u8], is_second: bool) -> Cannot {
     let mut out = begin(rt, b"edit");
-    text(&mut out, b"no field ");
+    out.text(b"no field ");
     quoted(&mut out, name);
     end_fields(rt, &mut out, is_second)
 }
 
-fn complain_edition(rt: &impl Host, name: &[u8]) -> u8 {
+fn complain_edition(rt: &impl Host, name: &[u8]) -> Cannot {
     let mut out = begin(rt, b"edit");
     quoted(&mut out, name);
-    text(
-        &mut out,
-        b" is a field of the second edition, and this channel is of the first",
-    );
+    out.text(b" is a field of the second edition, and this channel is of the first");
     end_fields(rt, &mut out, false)
 }
 
-fn complain_second_table(rt: &impl Host) -> u8 {
+fn complain_second_table(rt: &impl Host) -> Cannot {
     complain(
         rt,
         b"edit",
@@ -49,127 +43,87 @@ fn complain_second_table(rt: &impl Host) -> u8 {
     )
 }
 
-fn complain_no_value(rt: &impl Host, word: &[u8]) -> u8 {
+fn complain_no_value(rt: &impl Host, word: &[u8]) -> Cannot {
     let mut out = begin(rt, b"edit");
-    text(&mut out, b"no value in ");
+    out.text(b"no value in ");
     quoted(&mut out, word);
-    text(&mut out, b"; expected FIELD=VALUE");
+    out.text(b"; expected FIELD=VALUE");
     end(rt, &mut out);
-    CANNOT
+    Cannot
 }
 
-// What is wrong with a field.
-fn complain_field(rt: &impl Host, rows: &[u8; ROWS], field: Field, name: &[u8]) -> u8 {
-    let second = is_second(rows, NEW);
-    if field.field == SECOND_TABLE {
-        return complain_second_table(rt);
+// The field that a name means in a row, or what is wrong with it.
+fn field_named(rt: &impl Host, new: &Row, name: &[u8]) -> Result<Named, Cannot> {
+    let second = new.is_second();
+    match parse_field(name) {
+        Err(NoField::SecondTable) => Err(complain_second_table(rt)),
+        Err(NoField::Unknown) => Err(complain_unknown(rt, name, second)),
+        Ok(named) => {
+            if named.is_second_only() && !second {
+                return Err(complain_edition(rt, name));
+            }
+            Ok(named)
+        }
     }
-    if field.field == NO_FIELD {
-        return complain_unknown(rt, name, second);
-    }
-    if is_second_only(field) && !second {
-        return complain_edition(rt, name);
-    }
-    DONE
 }
 
 // The set that is named with a value which it does not have: only a table's values are a set's own.
-fn told_set(second: bool, field: Field, set: u8) -> u8 {
+fn told_set(second: bool, named: Named, set: Set) -> Option<Set> {
     if !second {
-        return ALL_SETS;
+        return None;
     }
-    if field.field == TABLE_FIELD {
-        return set;
+    if named.field == Field::Table {
+        return Some(set);
     }
-    field.set
+    named.set
 }
 
-fn complain_value(rt: &impl Host, rows: &[u8; ROWS], field: Field, set: u8, value: &[u8]) -> u8 {
-    let second = is_second(rows, NEW);
+fn complain_value(rt: &impl Host, new: &Row, named: Named, set: Set, value: &[u8]) -> Cannot {
+    let second = new.is_second();
     let mut out = begin(rt, b"edit");
-    text(&mut out, b"no ");
-    put_called(&mut out, field.field, told_set(second, field, set));
-    text(&mut out, b" ");
+    out.text(b"no ");
+    named
+        .field
+        .put_called(&mut out, told_set(second, named, set));
+    out.text(b" ");
     quoted(&mut out, value);
-    text(&mut out, b"; expected ");
-    put_expected(
-        &mut out,
-        kind_of(second, field.field, rule_of(rows, NEW, set)),
-    );
+    out.text(b"; expected ");
+    put_expected(&mut out, named.field.kind(second, rule_of(new, set)));
     end(rt, &mut out);
-    CANNOT
-}
-
-// Where the first `=` stands, or the end.
-fn equals_at(word: &[u8]) -> usize {
-    for i in 0..word.len() {
-        if word[i] == b'=' {
-            return i;
-        }
-    }
-    word.len()
+    Cannot
 }
 
 // Sets what a word says, where it is a rule or where it is not.
-fn set_word(rt: &impl Host, rows: &mut [u8; ROWS], word: &[u8], is_rule: bool) -> u8 {
-    let at = equals_at(word);
-    if word.len() <= at {
-        return complain_no_value(rt, word);
-    }
-    let name = part(word, 0, at);
-    let value = part(word, sum(at, 1), word.len());
-    let field = parse_field(name);
-    let wrong = complain_field(rt, rows, field, name);
-    if wrong != DONE {
-        return wrong;
-    }
-    if (field.field == FIRST_OF_SET) != is_rule {
-        return DONE;
-    }
-    let set = match set_field(rt.alloc(), rows, field, value) {
-        Ok(set) => set,
-        Err(_) => return complain(rt, b"edit", b"there is no memory left"),
+fn set_word(rt: &impl Host, new: &mut Row, word: &[u8], is_rule: bool) -> Result<(), Cannot> {
+    let Some(at) = word.iter().position(|b| *b == b'=') else {
+        return Err(complain_no_value(rt, word));
     };
-    if set == ALL_SETS {
-        return DONE;
+    let value = part(word, at.saturating_add(1), word.len());
+    let named = field_named(rt, new, part(word, 0, at))?;
+    if (named.field == Field::Rule) != is_rule {
+        return Ok(());
     }
-    complain_value(rt, rows, field, set, value)
+    match set_field(rt.alloc(), new, named, value) {
+        Ok(()) => Ok(()),
+        Err(Unset::NoMemory) => Err(complain(rt, b"edit", b"there is no memory left")),
+        Err(Unset::NoValue(set)) => Err(complain_value(rt, new, named, set, value)),
+    }
 }
 
-fn set_argument(
-    rt: &impl Host,
-    rows: &mut [u8; ROWS],
-    asked: Asked,
-    i: usize,
-    is_rule: bool,
-) -> u8 {
-    if !is_field(rt, asked, i) {
-        return DONE;
-    }
-    let mut given = tool_ends::buffer();
-    let n = tool_ends::arg(rt, i, &mut given);
-    set_word(rt, rows, &given[..n], is_rule)
-}
-
-fn set_all(rt: &impl Host, rows: &mut [u8; ROWS], asked: Asked, is_rule: bool) -> u8 {
-    let end = tool_ends::arg_count(rt);
-    for i in asked.file..end {
-        let status = set_argument(rt, rows, asked, i, is_rule);
-        if status != DONE {
-            return status;
+fn set_all(rt: &impl Host, new: &mut Row, asked: &Asked, is_rule: bool) -> Result<(), Cannot> {
+    for i in 0..tool_ends::arg_count(rt) {
+        if asked.is_field(rt, i) {
+            set_word(rt, new, Argument::at(rt, i).text(), is_rule)?;
         }
     }
-    DONE
+    Ok(())
 }
 
 // Sets every field that is asked for, the rules first, for they choose the names of the tables.
-pub fn set_fields(rt: &impl Host, rows: &mut [u8; ROWS], asked: Asked) -> u8 {
-    if !has_fields(asked) {
-        return complain_no_field(rt, is_second(rows, NEW));
+pub fn set_fields(rt: &impl Host, new: &mut Row, asked: &Asked) -> Result<(), Cannot> {
+    if !asked.has_fields() {
+        return Err(complain_no_field(rt, new.is_second()));
     }
-    let status = set_all(rt, rows, asked, true);
-    if status != DONE {
-        return status;
-    }
-    set_all(rt, rows, asked, false)
+    set_all(rt, new, asked, true)?;
+    set_all(rt, new, asked, false)
 }

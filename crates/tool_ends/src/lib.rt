@@ -1,14 +1,17 @@
 // How the tool begins and ends: what it is run on, its arguments, descriptors that are free are taken, and the exit status, which goes to descriptor 3 too where `run` asks for it.
 #![tactic(auto)]
 
-ghost use Rattle.std.specs.Prelude.{◌≡◌, ◌≤◌, length};
+pub mod argument;
+pub mod status;
 
-use std::env::FillError;
+pub use argument::{Argument, arg_count, has_argument, is_word};
+pub use status::{Cannot, Status};
 use std::fs::{File, OpenOptions, open};
 use std::io::{IsTerminal, Write};
 use std::os::fd::{AsRawFd, IntoRawFd};
 use std::rt::{Env, Files};
-use tool_out::{ERRORS, Out, SHOWN, end_line, flush, text, text_as, word, writer};
+use tool_out::shown::How;
+use tool_out::{Out, To};
 
 // What the tool asks of the system: files, arguments, standard output and error, and memory.
 pub trait Host: Files + Env + Print + Eprint + AllocGlobal {
@@ -21,13 +24,6 @@ impl Host for HostRuntime {
         self.stderr().is_terminal()
     }
 }
-
-// What a run comes to: done or sound; damaged, or the answer is no; cannot be done.
-pub const DONE: u8 = 0;
-
-pub const NO: u8 = 1;
-
-pub const CANNOT: u8 = 2;
 
 // The last of the descriptors that a program is started with.
 const STANDARD_ERROR: i32 = 2;
@@ -55,75 +51,20 @@ pub fn take_descriptors(rt: &impl Files<File = File>) {
     }
 }
 
-fn status_line(status: u8) -> &'static [u8] {
-    match status {
-        DONE => b"0\n",
-        NO => b"1\n",
-        _ => b"2\n",
-    }
-}
-
 // Tells the status. Descriptor 3 may be anybody's, so this is for a tool whose first argument asks for it.
-pub fn tell(rt: &impl Files, status: u8) {
+pub fn tell(rt: &impl Files, status: Status) {
     let opened = OpenOptions::new().write(true).open(rt, "/dev/fd/3");
     if let Ok(mut file) = opened {
-        let _ = file.write_all(status_line(status));
+        let _ = file.write_all(status.line());
     }
-}
-
-// Room for an argument; a longer one counts as missing.
-pub fn buffer() -> [u8; 4096]
-    ensures { 4096 ≡ length result }
-{
-    [0; 4096]
-}
-
-// Puts argument i at the start of `given`, and answers its length: 0 where it is missing, or has no room.
-pub fn arg(rt: &impl Env, i: usize, given: &mut [u8]) -> usize
-    ensures { result ≤ length given.new }
-{
-    match rt.arg(i, given) {
-        Ok(n) => n,
-        Err(_) => 0,
-    }
-}
-
-// Whether there is an argument i.
-pub fn has_argument(rt: &impl Env, i: usize) -> bool {
-    let mut given = [0u8; 1];
-    match rt.arg(i, &mut given) {
-        Ok(_) => true,
-        Err(FillError::TooLong) => true,
-        Err(FillError::NotPresent) => false,
-    }
-}
-
-// How many arguments there are, with the program's name.
-pub fn arg_count(rt: &impl Env) -> usize {
-    for i in 0..usize::MAX {
-        if !has_argument(rt, i) {
-            return i;
-        }
-    }
-    usize::MAX
-}
-
-// Whether argument i is this word.
-pub fn is_word(rt: &impl Env, i: usize, word: &[u8]) -> bool {
-    let mut given = buffer();
-    let n = arg(rt, i, &mut given);
-    if n == 0 {
-        return false;
-    }
-    check::same(&given[..n], word)
 }
 
 // A line on standard error: the command, where it is one, and what is wrong.
-pub fn complain<R: Eprint + Print + AllocGlobal>(rt: &R, command: &[u8], wrong: &[u8]) -> u8 {
+pub fn complain<R: Eprint + Print + AllocGlobal>(rt: &R, command: &[u8], wrong: &[u8]) -> Cannot {
     let mut out = begin(rt, command);
-    word(&mut out, wrong);
+    out.text(wrong);
     end(rt, &mut out);
-    CANNOT
+    Cannot
 }
 
 // .. about something that is named, as a file.
@@ -132,36 +73,36 @@ pub fn complain_of<R: Eprint + Print + AllocGlobal>(
     command: &[u8],
     what: &[u8],
     wrong: &[u8],
-) -> u8 {
+) -> Cannot {
     let mut out = begin(rt, command);
-    text_as(&mut out, SHOWN, what);
-    text(&mut out, b": ");
-    word(&mut out, wrong);
+    out.text_as(How::Shown, what);
+    out.text(b": ");
+    out.text(wrong);
     end(rt, &mut out);
-    CANNOT
+    Cannot
 }
 
 // A line on standard error that is begun: `casm: ` or `casm report: `.
 pub fn begin(rt: &impl AllocGlobal, command: &[u8]) -> Out {
-    let mut out = writer(rt.alloc(), ERRORS);
-    text(&mut out, b"casm");
+    let mut out = Out::new(rt.alloc(), To::Errors);
+    out.text(b"casm");
     if 0 < command.len() {
-        text(&mut out, b" ");
-        text(&mut out, command);
+        out.text(b" ");
+        out.text(command);
     }
-    text(&mut out, b": ");
+    out.text(b": ");
     out
 }
 
 // .. and ended.
 pub fn end<R: Print + Eprint>(rt: &R, out: &mut Out) {
-    end_line(out);
-    flush(rt, out);
+    out.end_line();
+    out.flush(rt);
 }
 
 // A word of the caller's in quotes.
 pub fn quoted(out: &mut Out, what: &[u8]) {
-    text(out, b"\"");
-    text_as(out, SHOWN, what);
-    text(out, b"\"");
+    out.text(b"\"");
+    out.text_as(How::Shown, what);
+    out.text(b"\"");
 }

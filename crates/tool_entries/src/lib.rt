@@ -2,58 +2,56 @@
 #![tactic(auto)]
 
 use casm::read::group_text;
-use tool_bytes::sum;
 use tool_dump::{Dump, put_dump};
 use tool_group::placed::put_placed;
 use tool_group::put_when;
 use tool_group::sets::put_sets;
-use tool_look::list::{LIST, entry, is_loose, is_sound, length_of, place_of};
+use tool_look::list::Entry;
 use tool_look::totals::edition_of;
-use tool_look::{SOUND, Seen, body_place};
-use tool_out::{Out, PLAIN, SHOWN, clear, count, end_line, fill, held, number, place, text, word};
+use tool_look::{Seen, Verdict};
+use tool_out::Out;
+use tool_out::shown::How;
 use tool_parts::put_parts;
 use tool_reason::detail::{is_more, put_detail};
 use tool_reason::{Cause, cause_of_entry};
-use tool_rows::read_rows;
-use tool_rows::row::ROWS;
+use tool_rows::{Rows, read_rows};
 use tool_table::WIDE;
 use tool_table::cut::put_wrapped;
 use tool_words::names;
-use tool_words::reasons::put_reason;
 
 // A place in the file, and in the body that begins at `base`.
 fn put_places(out: &mut Out, base: usize, at: usize) {
-    place(out, sum(base, at));
-    text(out, b" in the file, ");
-    place(out, at);
-    text(out, b" in the body");
+    out.place(base.saturating_add(at));
+    out.text(b" in the file, ");
+    out.place(at);
+    out.text(b" in the body");
 }
 
 // `Refusal 2: ..`, and what there is to say of it, each wrapped behind an indent.
 pub fn put_refusal(out: &mut Out, words: &mut Out, s: &[u8], cause: Cause, indent: usize) {
-    clear(words);
-    text(words, b"Refusal ");
-    number(words, cause.number as usize);
-    text(words, b": ");
-    put_reason(words, PLAIN, cause.case);
-    fill(out, b' ', indent);
-    put_wrapped(out, words, sum(indent, 2), false);
+    words.clear();
+    words.text(b"Refusal ");
+    words.number(cause.number as usize);
+    words.text(b": ");
+    words.text(cause.case.words());
+    out.fill(b' ', indent);
+    put_wrapped(out, words, indent.saturating_add(2), false);
     if !is_more(cause) {
         return;
     }
-    clear(words);
+    words.clear();
     put_detail(words, s, cause);
-    fill(out, b' ', sum(indent, 2));
-    put_wrapped(out, words, sum(indent, 2), false);
+    out.fill(b' ', indent.saturating_add(2));
+    put_wrapped(out, words, indent.saturating_add(2), false);
 }
 
 // Where an entry stands: its length and its places.
-fn put_where(out: &mut Out, base: usize, list: &[usize; LIST], k: usize) {
-    text(out, b"  ");
-    count(out, length_of(list, k), b"byte", b"bytes");
-    text(out, b" at ");
-    put_places(out, base, place_of(list, k));
-    end_line(out);
+fn put_where(out: &mut Out, base: usize, entry: Entry) {
+    out.text(b"  ");
+    out.count(entry.length, b"byte", b"bytes");
+    out.text(b" at ");
+    put_places(out, base, entry.place);
+    out.end_line();
 }
 
 // A damaged entry: why, where, and its bytes with that one marked.
@@ -63,140 +61,130 @@ fn put_damaged(
     file: &[u8],
     base: usize,
     body: &[u8],
-    list: &[usize; LIST],
-    k: usize,
+    entry: Entry,
 ) {
-    let cause = cause_of_entry(body, list, k);
-    let start = sum(base, place_of(list, k));
+    let cause = cause_of_entry(body, entry);
+    let start = base.saturating_add(entry.place);
     put_refusal(out, words, body, cause, 2);
-    clear(words);
-    text(words, b"at ");
+    words.clear();
+    words.text(b"at ");
     put_places(words, base, cause.place);
-    text(words, b", ");
-    place(words, tool_bytes::rest(cause.place, cause.start));
-    text(words, b" in the entry");
-    fill(out, b' ', 4);
+    words.text(b", ");
+    words.place(cause.place.saturating_sub(cause.start));
+    words.text(b" in the entry");
+    out.fill(b' ', 4);
     put_wrapped(out, words, 4, false);
     let dump = Dump {
-        start: start,
-        length: length_of(list, k),
-        mark: sum(base, cause.place),
+        start,
+        length: entry.length,
+        mark: base.saturating_add(cause.place),
         is_marked: true,
     };
-    put_dump(out, PLAIN, file, dump, 16, true);
+    put_dump(out, How::Plain, file, dump, 16, true);
 }
 
-fn put_loose(out: &mut Out, file: &[u8], base: usize, body: &[u8], list: &[usize; LIST], k: usize) {
-    let cause = cause_of_entry(body, list, k);
-    text(out, b"  Refusal ");
-    number(out, cause.number as usize);
-    text(out, b": ");
-    put_reason(out, PLAIN, cause.case);
-    end_line(out);
+fn put_loose(out: &mut Out, file: &[u8], base: usize, body: &[u8], entry: Entry) {
+    let cause = cause_of_entry(body, entry);
+    out.text(b"  Refusal ");
+    out.number(cause.number as usize);
+    out.text(b": ");
+    out.text(cause.case.words());
+    out.end_line();
     let dump = Dump {
-        start: sum(base, place_of(list, k)),
-        length: length_of(list, k),
+        start: base.saturating_add(entry.place),
+        length: entry.length,
         mark: 0,
         is_marked: false,
     };
-    put_dump(out, PLAIN, file, dump, 16, true);
+    put_dump(out, How::Plain, file, dump, 16, true);
 }
 
 // The tables of a group's channels.
-fn put_tables(out: &mut Out, words: &mut Out, rows: &[u8; ROWS], channels: usize, edition: u8) {
-    put_when(out, words, rows, channels);
-    text(out, b"\n  How notes are placed\n");
+fn put_tables(out: &mut Out, words: &mut Out, rows: &Rows, edition: u8) {
+    put_when(out, words, rows);
+    out.text(b"\n  How notes are placed\n");
     if edition == 1 {
-        put_placed(out, words, rows, channels);
+        put_placed(out, words, rows);
         return;
     }
-    put_sets(out, words, rows, channels);
+    put_sets(out, words, rows);
 }
 
 // `Group 1 of 5: ` or `Entry 2 of 4, sound: `, and the part names wrapped behind it.
 fn put_title(out: &mut Out, words: &mut Out, seen: Seen, k: usize, group: &[u8]) {
-    clear(words);
-    if seen.verdict == SOUND {
-        text(words, b"Group ");
+    words.clear();
+    if seen.verdict == Verdict::Sound {
+        words.text(b"Group ");
     } else {
-        text(words, b"Entry ");
+        words.text(b"Entry ");
     }
-    number(words, sum(k, 1));
-    text(words, b" of ");
-    number(words, seen.count);
-    if seen.verdict != SOUND {
-        text(words, b", sound");
+    words.number(k.saturating_add(1));
+    words.text(b" of ");
+    words.number(seen.count());
+    if seen.verdict != Verdict::Sound {
+        words.text(b", sound");
     }
-    text(words, b": ");
-    text(out, held(words));
-    let indent = held(words).len();
-    clear(words);
-    put_parts(words, SHOWN, group_text(group, 0));
+    words.text(b": ");
+    out.text(words.held());
+    let indent = words.held().len();
+    words.clear();
+    put_parts(words, How::Shown, group_text(group, 0));
     put_wrapped(out, words, indent, true);
 }
 
-fn put_sound(
-    out: &mut Out,
-    words: &mut Out,
-    rows: &mut [u8; ROWS],
-    seen: Seen,
-    group: &[u8],
-    list: &[usize; LIST],
-    k: usize,
-) {
+fn put_sound(out: &mut Out, words: &mut Out, seen: Seen, group: &[u8], entry: Entry, k: usize) {
     put_title(out, words, seen, k, group);
     let edition = edition_of(group);
-    let channels = read_rows(rows, group, 0);
-    text(out, b"  ");
-    let name = names::edition(edition);
-    word(out, &name);
+    let rows = read_rows(group, 0);
+    let channels = rows.count();
+    out.text(b"  ");
+    out.text(names::edition(edition));
     if 0 < channels {
-        text(out, b", ");
-        count(out, channels, b"channel", b"channels");
+        out.text(b", ");
+        out.count(channels, b"channel", b"channels");
     }
-    end_line(out);
-    put_where(out, body_place(seen), list, k);
+    out.end_line();
+    put_where(out, seen.body_place(), entry);
     if 0 < channels {
-        put_tables(out, words, rows, channels, edition);
+        put_tables(out, words, &rows, edition);
     }
 }
 
 fn put_other_title(out: &mut Out, seen: Seen, k: usize, is_loose: bool) {
-    text(out, b"Entry ");
-    number(out, sum(k, 1));
-    text(out, b" of ");
-    number(out, seen.count);
+    out.text(b"Entry ");
+    out.number(k.saturating_add(1));
+    out.text(b" of ");
+    out.number(seen.count());
     if is_loose {
-        text(out, b", loose\n");
+        out.text(b", loose\n");
         return;
     }
-    text(out, b", damaged\n");
+    out.text(b", damaged\n");
 }
 
 // Entry k, behind a line.
 pub fn put_entry(
     out: &mut Out,
     words: &mut Out,
-    rows: &mut [u8; ROWS],
     file: &[u8],
     body: &[u8],
-    list: &[usize; LIST],
+    entry: Entry,
     seen: Seen,
     k: usize,
 ) {
-    end_line(out);
-    fill(out, b'-', WIDE);
-    end_line(out);
-    if is_sound(list, k) {
-        put_sound(out, words, rows, seen, entry(body, list, k), list, k);
+    out.end_line();
+    out.fill(b'-', WIDE);
+    out.end_line();
+    if entry.is_sound() {
+        put_sound(out, words, seen, entry.bytes(body), entry, k);
         return;
     }
-    let is_loose = is_loose(body, list, k);
+    let is_loose = entry.is_loose(body);
     put_other_title(out, seen, k, is_loose);
-    put_where(out, body_place(seen), list, k);
+    put_where(out, seen.body_place(), entry);
     if is_loose {
-        put_loose(out, file, body_place(seen), body, list, k);
+        put_loose(out, file, seen.body_place(), body, entry);
         return;
     }
-    put_damaged(out, words, file, body_place(seen), body, list, k);
+    put_damaged(out, words, file, seen.body_place(), body, entry);
 }

@@ -15,46 +15,42 @@ pub fn room() -> [u8; FILE] {
     [0; FILE]
 }
 
-// How a reading went.
-pub const READ: u8 = 0;
-
-pub const MISSING: u8 = 1;
-
-pub const FORBIDDEN: u8 = 2;
-
-pub const DIRECTORY: u8 = 3;
-
-pub const TOO_LARGE: u8 = 4;
-
-pub const UNREADABLE: u8 = 5;
-
-pub const EMPTY: u8 = 6;
-
-pub const SPECIAL: u8 = 7;
-
-pub const LONG_NAME: u8 = 8;
-
+// Why a file was not read.
 #[derive(Clone, Copy)]
-pub struct Reading {
-    pub outcome: u8,
-    pub length: usize,
+pub enum Unread {
+    Missing,
+    Forbidden,
+    Directory,
+    TooLarge,
+    Unreadable,
+    Empty,
+    Special,
+    LongName,
 }
 
-fn failed(outcome: u8) -> Reading {
-    Reading {
-        outcome: outcome,
-        length: 0,
+impl Unread {
+    pub fn words(self) -> &'static [u8] {
+        match self {
+            Unread::Missing => b"no such file",
+            Unread::Forbidden => b"it may not be read",
+            Unread::Directory => b"a directory; expected a file",
+            Unread::TooLarge => b"the file is larger than 1,048,576 bytes",
+            Unread::Unreadable => b"it cannot be read",
+            Unread::Empty => b"the file is empty",
+            Unread::Special => b"a pipe or a device; expected a file",
+            Unread::LongName => b"its name is too long",
+        }
     }
 }
 
 // What an error of a call says of the file.
-fn outcome_of(kind: ErrorKind) -> u8 {
+fn unread_of(kind: ErrorKind) -> Unread {
     match kind {
-        ErrorKind::NotFound | ErrorKind::NotADirectory | ErrorKind::InvalidInput => MISSING,
-        ErrorKind::PermissionDenied => FORBIDDEN,
-        ErrorKind::IsADirectory => DIRECTORY,
-        ErrorKind::InvalidFilename => LONG_NAME,
-        _ => UNREADABLE,
+        ErrorKind::NotFound | ErrorKind::NotADirectory | ErrorKind::InvalidInput => Unread::Missing,
+        ErrorKind::PermissionDenied => Unread::Forbidden,
+        ErrorKind::IsADirectory => Unread::Directory,
+        ErrorKind::InvalidFilename => Unread::LongName,
+        _ => Unread::Unreadable,
     }
 }
 
@@ -78,15 +74,12 @@ fn fill<F: Read>(file: &mut F, bytes: &mut [u8]) -> io::Result<usize> {
     Ok(done)
 }
 
-fn read_open<F: Read>(file: &mut F, bytes: &mut [u8; FILE]) -> Reading {
+fn read_open<F: Read>(file: &mut F, bytes: &mut [u8; FILE]) -> Result<usize, Unread> {
     match fill(file, bytes) {
-        Ok(0) => failed(EMPTY),
-        Ok(FILE) => failed(TOO_LARGE),
-        Ok(length) => Reading {
-            outcome: READ,
-            length,
-        },
-        Err(e) => failed(outcome_of(e.kind())),
+        Ok(0) => Err(Unread::Empty),
+        Ok(FILE) => Err(Unread::TooLarge),
+        Ok(length) => Ok(length),
+        Err(e) => Err(unread_of(e.kind())),
     }
 }
 
@@ -101,38 +94,39 @@ const REGULAR: u32 = 0o10;
 const FOLDER: u32 = 0o4;
 
 // What the kind of a file says, before it is opened: a pipe would be waited for.
-fn outcome_of_kind(mode: u32) -> u8 {
+fn readable(mode: u32) -> Result<(), Unread> {
     match mode / KIND {
-        REGULAR => READ,
-        FOLDER => DIRECTORY,
-        _ => SPECIAL,
+        REGULAR => Ok(()),
+        FOLDER => Err(Unread::Directory),
+        _ => Err(Unread::Special),
     }
 }
 
-fn outcome_before(rt: &impl Files, path: &[u8]) -> u8 {
+fn readable_at(rt: &impl Files, path: &[u8]) -> Result<(), Unread> {
     if PATH_MAX <= path.len() {
-        return LONG_NAME;
+        return Err(Unread::LongName);
     }
     match known(rt, path) {
-        Ok(file) => outcome_of_kind(file.mode),
-        Err(e) => outcome_of(e.kind()),
+        Ok(file) => readable(file.mode),
+        Err(e) => Err(unread_of(e.kind())),
     }
 }
 
-fn read_named(rt: &impl Files, path: &[u8], bytes: &mut [u8; FILE]) -> io::Result<Reading> {
+fn read_named(
+    rt: &impl Files,
+    path: &[u8],
+    bytes: &mut [u8; FILE],
+) -> io::Result<Result<usize, Unread>> {
     let mut file = open(rt, path_text(path)?)?;
     Ok(read_open(&mut file, bytes))
 }
 
-// Reads the file that a path names. The file is closed before it answers.
-pub fn read_file(rt: &impl Files, path: &[u8], bytes: &mut [u8; FILE]) -> Reading {
-    let outcome = outcome_before(rt, path);
-    if outcome != READ {
-        return failed(outcome);
-    }
+// Reads the file that a path names: how many bytes it has. The file is closed before this answers.
+pub fn read_file(rt: &impl Files, path: &[u8], bytes: &mut [u8; FILE]) -> Result<usize, Unread> {
+    readable_at(rt, path)?;
     match read_named(rt, path, bytes) {
-        Ok(reading) => reading,
-        Err(e) => failed(outcome_of(e.kind())),
+        Ok(read) => read,
+        Err(e) => Err(unread_of(e.kind())),
     }
 }
 
@@ -140,26 +134,4 @@ pub fn read_file(rt: &impl Files, path: &[u8], bytes: &mut [u8; FILE]) -> Readin
 pub fn contents<'a>(bytes: &'a [u8; FILE], length: usize) -> &'a [u8] {
     let s: &[u8] = bytes;
     part(s, 0, length)
-}
-
-// What each outcome is called.
-const OUTCOMES: [[u8; 39]; 9] = [
-    *b"                                       ",
-    *b"no such file                           ",
-    *b"it may not be read                     ",
-    *b"a directory; expected a file           ",
-    *b"the file is larger than 1,048,576 bytes",
-    *b"it cannot be read                      ",
-    *b"the file is empty                      ",
-    *b"a pipe or a device; expected a file    ",
-    *b"its name is too long                   ",
-];
-
-pub fn outcome_words(outcome: u8) -> [u8; 39] {
-    let rows = OUTCOMES;
-    let n = outcome as usize;
-    if n < 9 {
-        return rows[n];
-    }
-    rows[5]
 }

@@ -1,90 +1,75 @@
 // How notes are placed by the channels of a group of the first edition: one set a channel, and the second table of a Cntt in a line of its own.
 use crate::FIRST_RIGHT;
-use tool_bytes::sum;
-use tool_out::{Out, clear, end_line, fill, number, text, word};
-use tool_rows::row;
-use tool_rows::row::{ROWS, byte_of, channel};
+use tool_out::Out;
+use tool_rows::Rows;
+use tool_rows::row::Row;
 use tool_table::row::put_row;
 use tool_table::{COLUMNS, column_place, limit_all, measure, next_cell};
 use tool_words::{names, put_notes, put_root, put_source, put_table};
 
 fn placed_head(cells: &mut Out) {
-    clear(cells);
-    text(
-        cells,
-        b"ch\0source\0rule\0table\0high key\0notes\0retrigger",
-    );
+    cells.clear();
+    cells.text(b"ch\0source\0rule\0table\0high key\0notes\0retrigger");
 }
 
-// The cells of a set behind its table: high key, notes and retrigger; its six bytes begin at byte i of row k.
-pub fn put_limits(cells: &mut Out, rows: &[u8; ROWS], k: usize, i: usize) {
+// The cells of a set behind its table: high key, notes and retrigger; its six bytes begin at byte i of the row.
+pub fn put_limits(cells: &mut Out, row: &Row, i: usize) {
     next_cell(cells);
-    put_root(cells, byte_of(rows, k, sum(i, 2)));
+    put_root(cells, row.byte(i.saturating_add(2)));
     next_cell(cells);
     put_notes(
         cells,
-        byte_of(rows, k, sum(i, 3)),
-        byte_of(rows, k, sum(i, 4)),
+        row.byte(i.saturating_add(3)),
+        row.byte(i.saturating_add(4)),
     );
     next_cell(cells);
-    let name = names::retrigger(byte_of(rows, k, sum(i, 5)));
-    word(cells, &name);
+    cells.text(names::retrigger(row.byte(i.saturating_add(5))));
 }
 
-fn placed_row(cells: &mut Out, rows: &[u8; ROWS], k: usize) {
-    clear(cells);
-    number(cells, channel(rows, k));
+fn placed_row(cells: &mut Out, row: &Row) {
+    cells.clear();
+    cells.number(row.channel());
     next_cell(cells);
-    put_source(cells, byte_of(rows, k, 18), byte_of(rows, k, 19));
+    put_source(cells, row.byte(18), row.byte(19));
     next_cell(cells);
-    let rule = names::rule(byte_of(rows, k, 20));
-    word(cells, &rule);
+    cells.text(names::rule(row.byte(20)));
     next_cell(cells);
-    let table = names::table_21(byte_of(rows, k, 21));
-    word(cells, &table);
-    put_limits(cells, rows, k, 20);
+    cells.text(names::table_21(row.byte(21)));
+    put_limits(cells, row, 20);
 }
 
-fn measure_placed(widths: &mut [usize; COLUMNS], cells: &mut Out, rows: &[u8; ROWS], count: usize) {
+fn measure_placed(widths: &mut [usize; COLUMNS], cells: &mut Out, rows: &Rows) {
     placed_head(cells);
     measure(widths, cells);
-    for k in 0..count {
-        placed_row(cells, rows, k);
+    for row in rows.held() {
+        placed_row(cells, row);
         measure(widths, cells);
     }
 }
 
-fn put_second(out: &mut Out, rows: &[u8; ROWS], k: usize, at: usize) {
-    if byte_of(rows, k, row::HAS_SECOND) == 0 {
-        return;
+fn put_second(out: &mut Out, row: &Row, at: usize) {
+    if let Some(table) = row.second {
+        out.fill(b' ', at);
+        out.text(b"second table: ");
+        put_table(out, 0, table);
+        out.end_line();
     }
-    fill(out, b' ', at);
-    text(out, b"second table: ");
-    put_table(out, 0, byte_of(rows, k, row::SECOND));
-    end_line(out);
 }
 
-fn put_channels(
-    out: &mut Out,
-    cells: &mut Out,
-    widths: &[usize; COLUMNS],
-    rows: &[u8; ROWS],
-    count: usize,
-    at: usize,
-) {
-    for k in 0..count {
-        placed_row(cells, rows, k);
+fn put_channels(out: &mut Out, cells: &mut Out, widths: &[usize; COLUMNS], rows: &Rows, at: usize) {
+    for row in rows.held() {
+        placed_row(cells, row);
         put_row(out, cells, widths, 2, FIRST_RIGHT);
-        put_second(out, rows, k, at);
+        put_second(out, row, at);
     }
 }
 
-pub fn put_placed(out: &mut Out, cells: &mut Out, rows: &[u8; ROWS], count: usize) {
+pub fn put_placed(out: &mut Out, cells: &mut Out, rows: &Rows) {
     let mut widths = [0usize; COLUMNS];
-    measure_placed(&mut widths, cells, rows, count);
+    measure_placed(&mut widths, cells, rows);
     limit_all(&mut widths, [2, 10, 10, 14, 8, 17, 11, 0], 2, 6);
     placed_head(cells);
     put_row(out, cells, &widths, 2, FIRST_RIGHT);
     let at = column_place(&widths, 2, 3);
-    put_channels(out, cells, &widths, rows, count, at);
+    put_channels(out, cells, &widths, rows, at);
 }

@@ -1,8 +1,8 @@
 // How notes are placed by the channels of a group of the second edition: a line a channel, and one a set, or one for all where the three are the same.
 use crate::placed::put_limits;
-use tool_bytes::sum;
-use tool_out::{Out, byte, clear, end_line, fill, number, pair, text, word};
-use tool_rows::row::{ROWS, byte_of, channel, is_one_set, set_place};
+use tool_out::Out;
+use tool_rows::Rows;
+use tool_rows::row::Row;
 use tool_table::cut::put_wrapped;
 use tool_table::row::put_row;
 use tool_table::{COLUMNS, limit_all, measure, next_cell};
@@ -11,106 +11,97 @@ use tool_words::{names, put_notes, put_source, put_table};
 const NO_RIGHT: [bool; COLUMNS] = [false; COLUMNS];
 
 fn sets_head(cells: &mut Out) {
-    clear(cells);
-    text(cells, b"set\0rule\0table\0high key\0notes\0retrigger");
+    cells.clear();
+    cells.text(b"set\0rule\0table\0high key\0notes\0retrigger");
 }
 
-// Set number `set` of channel k.
-fn set_row(cells: &mut Out, rows: &[u8; ROWS], k: usize, set: usize) {
-    clear(cells);
-    if is_one_set(rows, k) {
-        text(cells, b"all");
+// Set number `set` of a channel.
+fn set_row(cells: &mut Out, row: &Row, set: usize) {
+    cells.clear();
+    if row.is_one_set() {
+        cells.text(b"all");
     } else {
-        let whose = names::set((set % 256) as u8);
-        word(cells, &whose);
+        cells.text(names::set((set % 256) as u8));
     }
-    let i = set_place(rows, k, set);
-    let rule = byte_of(rows, k, i);
+    let i = row.set_place(set);
+    let rule = row.byte(i);
     next_cell(cells);
-    let name = names::rule(rule);
-    word(cells, &name);
+    cells.text(names::rule(rule));
     next_cell(cells);
-    put_table(cells, rule, byte_of(rows, k, sum(i, 1)));
-    put_limits(cells, rows, k, i);
+    put_table(cells, rule, row.byte(i.saturating_add(1)));
+    put_limits(cells, row, i);
 }
 
-// How many lines channel k has.
-fn lines_of(rows: &[u8; ROWS], k: usize) -> usize {
-    if is_one_set(rows, k) {
+// How many lines a channel has.
+fn lines_of(row: &Row) -> usize {
+    if row.is_one_set() {
         return 1;
     }
     3
 }
 
-fn measure_channel(widths: &mut [usize; COLUMNS], cells: &mut Out, rows: &[u8; ROWS], k: usize) {
-    let count = lines_of(rows, k);
+fn measure_channel(widths: &mut [usize; COLUMNS], cells: &mut Out, row: &Row) {
+    let count = lines_of(row);
     for set in 0..count {
-        set_row(cells, rows, k, set);
+        set_row(cells, row, set);
         measure(widths, cells);
     }
 }
 
-fn measure_sets(widths: &mut [usize; COLUMNS], cells: &mut Out, rows: &[u8; ROWS], count: usize) {
+fn measure_sets(widths: &mut [usize; COLUMNS], cells: &mut Out, rows: &Rows) {
     sets_head(cells);
     measure(widths, cells);
-    for k in 0..count {
-        measure_channel(widths, cells, rows, k);
+    for row in rows.held() {
+        measure_channel(widths, cells, row);
     }
 }
 
 // Bytes 40-46, which are unexplained, as they stand.
-fn put_tail(out: &mut Out, rows: &[u8; ROWS], k: usize) {
-    text(out, b", bytes 40-46");
+fn put_tail(out: &mut Out, row: &Row) {
+    out.text(b", bytes 40-46");
     for i in 40..47 {
-        byte(out, b' ');
-        pair(out, byte_of(rows, k, i));
+        out.byte(b' ');
+        out.pair(row.byte(i));
     }
-    end_line(out);
+    out.end_line();
 }
 
-fn put_channel_head(out: &mut Out, rows: &[u8; ROWS], k: usize) {
-    text(out, b"  ch ");
-    number(out, channel(rows, k));
-    text(out, b": source ");
-    put_source(out, byte_of(rows, k, 18), byte_of(rows, k, 19));
-    text(out, b", middle ");
-    put_notes(out, byte_of(rows, k, 20), byte_of(rows, k, 21));
-    put_tail(out, rows, k);
+fn put_channel_head(out: &mut Out, row: &Row) {
+    out.text(b"  ch ");
+    out.number(row.channel());
+    out.text(b": source ");
+    put_source(out, row.byte(18), row.byte(19));
+    out.text(b", middle ");
+    put_notes(out, row.byte(20), row.byte(21));
+    put_tail(out, row);
 }
 
-fn put_channel(
-    out: &mut Out,
-    cells: &mut Out,
-    widths: &[usize; COLUMNS],
-    rows: &[u8; ROWS],
-    k: usize,
-) {
-    put_channel_head(out, rows, k);
-    let count = lines_of(rows, k);
+fn put_channel(out: &mut Out, cells: &mut Out, widths: &[usize; COLUMNS], row: &Row) {
+    put_channel_head(out, row);
+    let count = lines_of(row);
     for set in 0..count {
-        set_row(cells, rows, k, set);
+        set_row(cells, row, set);
         put_row(out, cells, widths, 4, NO_RIGHT);
     }
 }
 
 fn put_meaning(out: &mut Out, cells: &mut Out) {
-    clear(cells);
-    text(
-        cells,
+    cells.clear();
+    cells.text(
         b"Source notes in the middle range use the middle set, notes below it the low set, the other notes the high set; \"all\" stands where the three sets are the same.",
     );
-    fill(out, b' ', 2);
+    out.fill(b' ', 2);
     put_wrapped(out, cells, 2, false);
 }
 
-pub fn put_sets(out: &mut Out, cells: &mut Out, rows: &[u8; ROWS], count: usize) {
+pub fn put_sets(out: &mut Out, cells: &mut Out, rows: &Rows) {
     let mut widths = [0usize; COLUMNS];
     put_meaning(out, cells);
-    measure_sets(&mut widths, cells, rows, count);
+    measure_sets(&mut widths, cells, rows);
     limit_all(&mut widths, [6, 10, 26, 8, 17, 19, 0, 0], 4, 8);
     sets_head(cells);
     put_row(out, cells, &widths, 4, NO_RIGHT);
-    for k in 0..count {
-        put_channel(out, cells, &widths, rows, k);
+    for row in rows.held() {
+        put_channel(out, cells, &widths, row);
     }
 }

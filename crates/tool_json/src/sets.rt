@@ -1,9 +1,7 @@
 // The sets of a channel as JSON: one with the name `all`, or those of the low, the middle and the high notes.
 use crate::put::{put_name, put_null, put_number, put_words};
-use tool_bytes::{rest, sum};
-use tool_out::{Out, byte, clear, number, text, word};
-use tool_rows::row;
-use tool_rows::row::{ROWS, byte_of, is_second, set_place};
+use tool_out::Out;
+use tool_rows::row::Row;
 use tool_words::{names, put_notes, put_root, put_table};
 
 // Notes from one to another; null where there are none.
@@ -12,20 +10,20 @@ fn put_reach(out: &mut Out, low: usize, end: usize) {
         put_null(out, b"source_notes");
         return;
     }
-    text(out, b",\"source_notes\":{\"low\":");
-    number(out, low);
-    put_number(out, b"high", rest(end, 1));
-    byte(out, b'}');
+    out.text(b",\"source_notes\":{\"low\":");
+    out.number(low);
+    put_number(out, b"high", end.saturating_sub(1));
+    out.byte(b'}');
 }
 
 // The source notes that use set number `set`: those below the middle range, in it, and the others.
-fn put_source_notes(out: &mut Out, rows: &[u8; ROWS], k: usize, set: usize) {
-    if !is_second(rows, k) {
+fn put_source_notes(out: &mut Out, row: &Row, set: usize) {
+    if !row.is_second() {
         put_reach(out, 0, 128);
         return;
     }
-    let low = byte_of(rows, k, 20) as usize;
-    let behind = sum(byte_of(rows, k, 21) as usize, 1);
+    let low = row.byte(20) as usize;
+    let behind = (row.byte(21) as usize).saturating_add(1);
     if set == 0 {
         put_reach(out, 0, low);
         return;
@@ -41,84 +39,81 @@ fn put_source_notes(out: &mut Out, rows: &[u8; ROWS], k: usize, set: usize) {
     put_reach(out, behind, 128);
 }
 
-fn put_set_name(out: &mut Out, rows: &[u8; ROWS], k: usize, set: usize) {
-    text(out, b"{\"set\":\"");
-    if is_second(rows, k) {
-        let whose = names::set((set % 256) as u8);
-        word(out, &whose);
+fn put_set_name(out: &mut Out, row: &Row, set: usize) {
+    out.text(b"{\"set\":\"");
+    if row.is_second() {
+        out.text(names::set((set % 256) as u8));
     } else {
-        text(out, b"all");
+        out.text(b"all");
     }
-    byte(out, b'"');
+    out.byte(b'"');
 }
 
-fn put_table_name(words: &mut Out, rows: &[u8; ROWS], k: usize, i: usize) {
-    if is_second(rows, k) {
-        put_table(words, byte_of(rows, k, i), byte_of(rows, k, sum(i, 1)));
+fn put_table_name(words: &mut Out, row: &Row, i: usize) {
+    if row.is_second() {
+        put_table(words, row.byte(i), row.byte(i.saturating_add(1)));
         return;
     }
-    let name = names::table_21(byte_of(rows, k, sum(i, 1)));
-    word(words, &name);
+    words.text(names::table_21(row.byte(i.saturating_add(1))));
 }
 
-fn put_second(out: &mut Out, words: &mut Out, rows: &[u8; ROWS], k: usize) {
-    if byte_of(rows, k, row::HAS_SECOND) == 0 {
-        put_null(out, b"second_table");
-        return;
+fn put_second(out: &mut Out, words: &mut Out, row: &Row) {
+    match row.second {
+        None => put_null(out, b"second_table"),
+        Some(table) => {
+            words.clear();
+            put_table(words, 0, table);
+            put_words(out, b"second_table", words);
+        }
     }
-    clear(words);
-    put_table(words, 0, byte_of(rows, k, row::SECOND));
-    put_words(out, b"second_table", words);
 }
 
 // The limits of a set whose bytes begin at byte i, and its retrigger rule.
-fn put_limits(out: &mut Out, words: &mut Out, rows: &[u8; ROWS], k: usize, i: usize) {
-    let low = byte_of(rows, k, sum(i, 3));
-    let high = byte_of(rows, k, sum(i, 4));
+fn put_limits(out: &mut Out, words: &mut Out, row: &Row, i: usize) {
+    let low = row.byte(i.saturating_add(3));
+    let high = row.byte(i.saturating_add(4));
     put_name(out, b"high_key");
-    byte(out, b'"');
-    put_root(out, byte_of(rows, k, sum(i, 2)));
-    byte(out, b'"');
+    out.byte(b'"');
+    put_root(out, row.byte(i.saturating_add(2)));
+    out.byte(b'"');
     put_number(out, b"low_limit", low as usize);
     put_number(out, b"high_limit", high as usize);
-    clear(words);
+    words.clear();
     put_notes(words, low, high);
     put_words(out, b"limits", words);
-    clear(words);
-    let name = names::retrigger(byte_of(rows, k, sum(i, 5)));
-    word(words, &name);
+    words.clear();
+    words.text(names::retrigger(row.byte(i.saturating_add(5))));
     put_words(out, b"retrigger", words);
-    byte(out, b'}');
+    out.byte(b'}');
 }
 
-fn put_set(out: &mut Out, words: &mut Out, rows: &[u8; ROWS], k: usize, set: usize) {
-    let i = set_place(rows, k, set);
-    put_set_name(out, rows, k, set);
-    put_source_notes(out, rows, k, set);
-    clear(words);
-    let rule = names::rule(byte_of(rows, k, i));
-    word(words, &rule);
+fn put_set(out: &mut Out, words: &mut Out, row: &Row, set: usize) {
+    let i = row.set_place(set);
+    put_set_name(out, row, set);
+    put_source_notes(out, row, set);
+    words.clear();
+    words.text(names::rule(row.byte(i)));
     put_words(out, b"rule", words);
-    clear(words);
-    put_table_name(words, rows, k, i);
+    words.clear();
+    put_table_name(words, row, i);
     put_words(out, b"table", words);
-    put_second(out, words, rows, k);
-    put_limits(out, words, rows, k, i);
+    put_second(out, words, row);
+    put_limits(out, words, row, i);
 }
 
-fn sets_of(rows: &[u8; ROWS], k: usize) -> usize {
-    if is_second(rows, k) {
+fn sets_of(row: &Row) -> usize {
+    if row.is_second() {
         return 3;
     }
     1
 }
 
-pub fn put_sets(out: &mut Out, words: &mut Out, rows: &[u8; ROWS], k: usize) {
-    let count = sets_of(rows, k);
+pub fn put_sets(out: &mut Out, words: &mut Out, row: &Row) {
+    let count = sets_of(row);
     for set in 0..count {
         if 0 < set {
-            byte(out, b',');
+            out.byte(b',');
         }
-        put_set(out, words, rows, k, set);
+        put_set(out, words, row, set);
     }
 }

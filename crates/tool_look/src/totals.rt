@@ -1,8 +1,7 @@
 // How many entries of each kind a body has, and of its sound groups how many parts and channels, and the editions.
-use crate::list::{LIST, entry, is_loose, is_sound};
+use crate::list::{Entry, Kind, List};
 use casm::read::{find_group, group_text};
 use layout::edition::Edition;
-use tool_bytes::sum;
 
 #[derive(Clone, Copy)]
 pub struct Totals {
@@ -32,7 +31,7 @@ pub fn parts_of(text: &[u8]) -> usize {
     let mut n: usize = 1;
     for i in 0..text.len() {
         if text[i] == b',' {
-            n = sum(n, 1);
+            n = n.saturating_add(1);
         }
     }
     n
@@ -61,11 +60,11 @@ pub fn channels_of(group: &[u8]) -> usize {
 fn with_group(before: Totals, group: &[u8]) -> Totals {
     let edition = edition_of(group);
     Totals {
-        sound: sum(before.sound, 1),
+        sound: before.sound.saturating_add(1),
         damaged: before.damaged,
         loose: before.loose,
-        parts: sum(before.parts, parts_of(group_text(group, 0))),
-        channels: sum(before.channels, channels_of(group)),
+        parts: before.parts.saturating_add(parts_of(group_text(group, 0))),
+        channels: before.channels.saturating_add(channels_of(group)),
         is_first: before.is_first || edition == 1,
         is_second: before.is_second || edition == 2,
     }
@@ -74,8 +73,8 @@ fn with_group(before: Totals, group: &[u8]) -> Totals {
 fn with_other(before: Totals, damaged: usize, loose: usize) -> Totals {
     Totals {
         sound: before.sound,
-        damaged: sum(before.damaged, damaged),
-        loose: sum(before.loose, loose),
+        damaged: before.damaged.saturating_add(damaged),
+        loose: before.loose.saturating_add(loose),
         parts: before.parts,
         channels: before.channels,
         is_first: before.is_first,
@@ -83,21 +82,19 @@ fn with_other(before: Totals, damaged: usize, loose: usize) -> Totals {
     }
 }
 
-fn with_entry(before: Totals, body: &[u8], list: &[usize; LIST], k: usize) -> Totals {
-    if is_sound(list, k) {
-        return with_group(before, entry(body, list, k));
+fn with_entry(before: Totals, body: &[u8], entry: Entry) -> Totals {
+    match entry.kind(body) {
+        Kind::Sound => with_group(before, entry.bytes(body)),
+        Kind::Loose => with_other(before, 0, 1),
+        Kind::Damaged => with_other(before, 1, 0),
     }
-    if is_loose(body, list, k) {
-        return with_other(before, 0, 1);
-    }
-    with_other(before, 1, 0)
 }
 
 // The totals of the first `count` entries.
-pub fn totals_of(body: &[u8], list: &[usize; LIST], count: usize) -> Totals {
+pub fn totals_of(body: &[u8], list: &List, count: usize) -> Totals {
     let mut totals = none();
     for k in 0..count {
-        totals = with_entry(totals, body, list, k);
+        totals = with_entry(totals, body, list.at(k));
     }
     totals
 }

@@ -1,7 +1,8 @@
 // The head of the page: what is drawn in many places of it, the name of the file, its verdict.
 use tool_look::totals::Totals;
-use tool_look::{DAMAGED, SOUND, Seen};
-use tool_out::{HTML, Out, text, text_as};
+use tool_look::{Seen, Verdict};
+use tool_out::Out;
+use tool_out::shown::How;
 use tool_page_css::{put_css, put_patterns, put_tick, put_triangle};
 use tool_page_file::{put_summary, put_verdict};
 use tool_page_keys::{put_darks, put_lines};
@@ -14,62 +15,57 @@ const EVERY: usize = 0x3_FFFF_FFFF;
 fn put_shapes(out: &mut Out) {
     put_patterns(out);
     put_cells(out, EVERY);
-    text(
-        out,
+    out.text(
         b"\"/></g><g id=\"keys\"><path class=\"k-light\" d=\"M0 0h128v20h-128z\"/><path class=\"k-line\" d=\"",
     );
     put_lines(out);
-    text(out, b"\"/><path class=\"k-dark\" d=\"");
+    out.text(b"\"/><path class=\"k-dark\" d=\"");
     put_darks(out);
-    text(
-        out,
-        b"\"/><path class=\"k-line\" d=\"M0 0h128v20h-128z\"/></g></defs></svg>",
-    );
+    out.text(b"\"/><path class=\"k-line\" d=\"M0 0h128v20h-128z\"/></g></defs></svg>");
 }
 
 // The sign of a verdict and its word; neither colour nor sign where it is not about a body's entries.
 fn put_badge(out: &mut Out, seen: Seen) {
-    if seen.verdict == SOUND {
-        text(out, b"sound\">");
+    if seen.verdict == Verdict::Sound {
+        out.text(b"sound\">");
         put_tick(out);
-        text(out, b"Sound");
+        out.text(b"Sound");
         return;
     }
-    if seen.verdict == DAMAGED {
-        text(out, b"damaged\">");
+    if seen.verdict == Verdict::Damaged {
+        out.text(b"damaged\">");
         put_triangle(out);
-        if seen.is_body {
-            text(out, b"Damaged");
+        if seen.found.is_some() {
+            out.text(b"Damaged");
             return;
         }
-        text(out, b"damaged");
+        out.text(b"damaged");
         return;
     }
-    text(out, b"none\">");
+    out.text(b"none\">");
     put_verdict(out, seen.verdict);
 }
 
-fn put_head(out: &mut Out, name: &[u8], verdict: u8) {
-    text(
-        out,
+fn put_head(out: &mut Out, name: &[u8], verdict: Verdict) {
+    out.text(
         b"<!DOCTYPE html>\n<html lang=\"en\"><head><meta charset=\"utf-8\"/><meta name=\"viewport\" content=\"width=device-width, initial-scale=1\"/><title>",
     );
-    text_as(out, HTML, name);
-    text(out, b": ");
+    out.text_as(How::Html, name);
+    out.text(b": ");
     put_verdict(out, verdict);
-    text(out, b"</title><style>");
+    out.text(b"</title><style>");
     put_css(out);
-    text(out, b"</style></head>\n<body>");
+    out.text(b"</style></head>\n<body>");
     put_shapes(out);
 }
 
 pub fn put_top(out: &mut Out, name: &[u8], seen: Seen, totals: Totals) {
     put_head(out, name, seen.verdict);
-    text(out, b"<header class=\"top\"><h1>");
-    text_as(out, HTML, name);
-    text(out, b"</h1><div class=\"verdict\"><span class=\"badge is-");
+    out.text(b"<header class=\"top\"><h1>");
+    out.text_as(How::Html, name);
+    out.text(b"</h1><div class=\"verdict\"><span class=\"badge is-");
     put_badge(out, seen);
-    text(out, b"</span><span>");
+    out.text(b"</span><span>");
     put_summary(out, seen, totals);
-    text(out, b"</span></div></header>\n<main>");
+    out.text(b"</span></div></header>\n<main>");
 }

@@ -1,59 +1,58 @@
 // An entry of the body as a box on a scale, with its number and its words.
 #![tactic(auto)]
 
-use tool_bytes::sum;
-use tool_look::list::{LIST, length_of, place_of};
-use tool_look::{Seen, body_place};
-use tool_out::{Out, byte, count, number, place, text};
+use tool_look::list::{Entry, Kind};
+use tool_look::{Seen, Verdict};
+use tool_out::Out;
 use tool_page_share::{put_middle, put_share};
-use tool_page_words::{SOUND, kind_of, put_id, put_kind, put_title};
+use tool_page_words::{put_id, put_kind, put_title};
 
 // Entries are called groups where the body is sound.
 pub fn put_entry_word(out: &mut Out, seen: Seen) {
-    if seen.verdict == tool_look::SOUND {
-        text(out, b"Group ");
+    if seen.verdict == Verdict::Sound {
+        out.text(b"Group ");
         return;
     }
-    text(out, b"Entry ");
+    out.text(b"Entry ");
 }
 
-// `80 bytes at 70 (0x46)`, of entry k.
-pub fn put_size(out: &mut Out, list: &[usize; LIST], seen: Seen, k: usize) {
-    count(out, length_of(list, k), b"byte", b"bytes");
-    text(out, b" at ");
-    place(out, sum(body_place(seen), place_of(list, k)));
+// `80 bytes at 70 (0x46)`, of an entry.
+pub fn put_size(out: &mut Out, entry: Entry, seen: Seen) {
+    out.count(entry.length, b"byte", b"bytes");
+    out.text(b" at ");
+    out.place(seen.body_place().saturating_add(entry.place));
 }
 
 // What entry k is, in words.
-fn put_label(out: &mut Out, body: &[u8], list: &[usize; LIST], seen: Seen, k: usize) {
+fn put_label(out: &mut Out, body: &[u8], entry: Entry, seen: Seen, k: usize) {
     put_entry_word(out, seen);
-    number(out, sum(k, 1));
-    text(out, b", ");
-    put_kind(out, kind_of(body, list, k));
-    text(out, b", ");
-    put_size(out, list, seen, k);
-    text(out, b": ");
-    put_title(out, body, list, k);
+    out.number(k.saturating_add(1));
+    out.text(b", ");
+    put_kind(out, entry.kind(body));
+    out.text(b", ");
+    put_size(out, entry, seen);
+    out.text(b": ");
+    put_title(out, body, entry);
 }
 
 // The number of an entry in the middle of its box, on a plain ground where the box is hatched.
-fn put_number(out: &mut Out, kind: u8, at: usize, length: usize, of: usize, k: usize) {
-    if kind != SOUND {
-        text(out, b"<circle class=\"pill\" cx=\"");
+fn put_number(out: &mut Out, kind: Kind, at: usize, length: usize, of: usize, k: usize) {
+    if kind != Kind::Sound {
+        out.text(b"<circle class=\"pill\" cx=\"");
         put_middle(out, at, length, of);
-        text(out, b"\" cy=\"20\" r=\"11\"/>");
+        out.text(b"\" cy=\"20\" r=\"11\"/>");
     }
-    text(out, b"<text class=\"");
-    if kind == SOUND {
-        text(out, b"t-sound");
+    out.text(b"<text class=\"");
+    if kind == Kind::Sound {
+        out.text(b"t-sound");
     } else {
-        text(out, b"t-ink");
+        out.text(b"t-ink");
     }
-    text(out, b"\" x=\"");
+    out.text(b"\" x=\"");
     put_middle(out, at, length, of);
-    text(out, b"\" y=\"24.5\">");
-    number(out, sum(k, 1));
-    text(out, b"</text>");
+    out.text(b"\" y=\"24.5\">");
+    out.number(k.saturating_add(1));
+    out.text(b"</text>");
 }
 
 // Whether a box has room for its number: six in a hundred.
@@ -67,37 +66,37 @@ fn is_roomy(length: usize, of: usize) -> bool {
     6 * of <= 100 * length
 }
 
-fn put_box(out: &mut Out, kind: u8, at: usize, length: usize, of: usize) {
-    text(out, b"<rect class=\"f-");
+fn put_box(out: &mut Out, kind: Kind, at: usize, length: usize, of: usize) {
+    out.text(b"<rect class=\"f-");
     put_kind(out, kind);
-    text(out, b"\" x=\"");
+    out.text(b"\" x=\"");
     put_share(out, at, of);
-    text(out, b"\" y=\"0\" width=\"");
+    out.text(b"\" y=\"0\" width=\"");
     put_share(out, length, of);
-    text(out, b"\" height=\"40\"/>");
+    out.text(b"\" height=\"40\"/>");
 }
 
 // Where a link to entry k begins.
 pub fn put_link(out: &mut Out, k: usize) {
-    text(out, b"<a href=\"#");
+    out.text(b"<a href=\"#");
     put_id(out, k);
-    byte(out, b'"');
+    out.byte(b'"');
 }
 
 // Entry k in the map.
-pub fn put_entry(out: &mut Out, body: &[u8], list: &[usize; LIST], seen: Seen, k: usize) {
-    let kind = kind_of(body, list, k);
-    let at = place_of(list, k);
-    let length = length_of(list, k);
+pub fn put_entry(out: &mut Out, body: &[u8], entry: Entry, seen: Seen, k: usize) {
+    let kind = entry.kind(body);
+    let at = entry.place;
+    let length = entry.length;
     put_link(out, k);
-    text(out, b" aria-label=\"");
-    put_label(out, body, list, seen, k);
-    text(out, b"\"><title>");
-    put_label(out, body, list, seen, k);
-    text(out, b"</title>");
-    put_box(out, kind, at, length, seen.length);
-    if is_roomy(length, seen.length) {
-        put_number(out, kind, at, length, seen.length, k);
+    out.text(b" aria-label=\"");
+    put_label(out, body, entry, seen, k);
+    out.text(b"\"><title>");
+    put_label(out, body, entry, seen, k);
+    out.text(b"</title>");
+    put_box(out, kind, at, length, seen.body_length());
+    if is_roomy(length, seen.body_length()) {
+        put_number(out, kind, at, length, seen.body_length(), k);
     }
-    text(out, b"</a>");
+    out.text(b"</a>");
 }

@@ -1,10 +1,10 @@
 // What is the same in every page: its style sheet, and the words at its foot. None of it names anything outside the page.
 #![tactic(auto)]
 
-use tool_out::{Out, text};
+use tool_out::Out;
 
 // Colours, light and dark, and the head of the page.
-const TOP: [u8; 1916] = *b"
+const TOP: &[u8] = b"
 :root {
   color-scheme: light dark;
   --bg: #f4f2ec; --card: #fffefb; --ink: #1d1e23; --soft: #565964; --line: #dcd8cc; --edge: #868994;
@@ -37,7 +37,7 @@ a:focus-visible, pre:focus-visible { outline: 3px solid var(--on); outline-offse
 .is-sound { color: var(--sound); } .is-damaged { color: var(--damage); } .is-loose { color: var(--loose); }";
 
 // Cards: the map of the body, its index, the sections.
-const CARDS: [u8; 2082] = *b"
+const CARDS: &[u8] = b"
 .card { background: var(--card); border: 1px solid var(--line); border-radius: 12px; padding: 18px 20px; margin: 0 0 18px; }
 .card > h2 { font-size: 18px; line-height: 1.3; }
 .two { display: grid; grid-template-columns: minmax(0, 1fr) 340px; gap: 0 18px; align-items: start; }
@@ -66,7 +66,7 @@ const CARDS: [u8; 2082] = *b"
 .plain .here td { font-weight: 700; }";
 
 // Groups: part names, the strips of a channel, its keys.
-const CHANNELS: [u8; 3216] = *b"
+const CHANNELS: &[u8] = b"
 .eyebrow { color: var(--soft); font-size: 13px; font-weight: 600; display: flex; flex-wrap: wrap; gap: 0 10px; align-items: center; }
 .group > header { padding-bottom: 10px; }
 .card > header > .parts { display: flex; flex-wrap: wrap; gap: 6px; margin: 7px 0 8px; font-size: 16px; line-height: 1.3; font-weight: 600; }
@@ -102,7 +102,7 @@ const CHANNELS: [u8; 3216] = *b"
 .oct text { font: 9px var(--mono); fill: var(--soft); }";
 
 // How notes are placed; damaged entries and their bytes.
-const PLACED: [u8; 1863] = *b"
+const PLACED: &[u8] = b"
 .solo { grid-template-columns: minmax(0, 1fr); } .solo .kb { height: 22px; }
 .facts { display: flex; flex-wrap: wrap; gap: 6px 26px; margin-top: 8px; }
 .facts dt { font-size: 12px; color: var(--soft); line-height: 1.2; }
@@ -127,7 +127,7 @@ pre mark { background: var(--ink); color: var(--card); font-weight: 700; border-
 footer { max-width: 1280px; margin: 0 auto; padding: 4px 20px 40px; color: var(--soft); font-size: 13px; }";
 
 // Narrow windows, and paper.
-const NARROW: [u8; 1973] = *b"
+const NARROW: &[u8] = b"
 @media (max-width: 1100px) {
   .ch, .keyrow { grid-template-columns: 124px minmax(0, 1fr); }
   .ch .placed { grid-column: 2; margin-top: 10px; }
@@ -168,59 +168,49 @@ const NARROW: [u8; 1973] = *b"
 
 // The style sheet.
 pub fn put_css(out: &mut Out) {
-    let top = TOP;
-    text(out, &top);
-    let cards = CARDS;
-    text(out, &cards);
-    let channels = CHANNELS;
-    text(out, &channels);
-    let placed = PLACED;
-    text(out, &placed);
-    let narrow = NARROW;
-    text(out, &narrow);
+    out.text(TOP);
+    out.text(CARDS);
+    out.text(CHANNELS);
+    out.text(PLACED);
+    out.text(NARROW);
 }
 
 // How the strips and the keys are read.
-const FOOT: [u8; 540] = *b"</main>
+const FOOT: &[u8] = b"</main>
 <footer><div class=\"how\"><p>Chord strip: 34 types from Maj to 1+2+5 in the order above each group; a filled cell plays, an outlined one does not.</p><p>Root strip: a filled root plays.</p><p>Note range: the bar covers the keys from the low to the high limit. Brackets with a dashed line: the low limit stands above the high limit.</p><p>Second edition: source notes in the middle range use the middle set, notes below it the low set, the other notes the high set. All: the three sets are the same.</p></div></footer>
 </body></html>
 ";
 
 pub fn put_foot(out: &mut Out) {
-    let foot = FOOT;
-    text(out, &foot);
+    out.text(FOOT);
 }
 
 // Hatching for what is damaged, dots for what is loose; the cells of the chord types and the keys are put behind them.
-const PATTERNS: [u8; 524] =
-    *b"<svg width=\"0\" height=\"0\" style=\"position:absolute\" aria-hidden=\"true\"><defs><pattern id=\"hatch\" width=\"8\" height=\"8\" patternUnits=\"userSpaceOnUse\" patternTransform=\"rotate(45)\"><rect width=\"8\" height=\"8\" style=\"fill:var(--damage-bg)\"/><rect width=\"3.4\" height=\"8\" style=\"fill:var(--damage)\"/></pattern><pattern id=\"dots\" width=\"7\" height=\"7\" patternUnits=\"userSpaceOnUse\"><rect width=\"7\" height=\"7\" style=\"fill:var(--loose-bg)\"/><circle cx=\"3.5\" cy=\"3.5\" r=\"1.7\" style=\"fill:var(--loose)\"/></pattern><g id=\"types\"><path d=\"";
+const PATTERNS: &[u8] =
+    b"<svg width=\"0\" height=\"0\" style=\"position:absolute\" aria-hidden=\"true\"><defs><pattern id=\"hatch\" width=\"8\" height=\"8\" patternUnits=\"userSpaceOnUse\" patternTransform=\"rotate(45)\"><rect width=\"8\" height=\"8\" style=\"fill:var(--damage-bg)\"/><rect width=\"3.4\" height=\"8\" style=\"fill:var(--damage)\"/></pattern><pattern id=\"dots\" width=\"7\" height=\"7\" patternUnits=\"userSpaceOnUse\"><rect width=\"7\" height=\"7\" style=\"fill:var(--loose-bg)\"/><circle cx=\"3.5\" cy=\"3.5\" r=\"1.7\" style=\"fill:var(--loose)\"/></pattern><g id=\"types\"><path d=\"";
 
 pub fn put_patterns(out: &mut Out) {
-    let patterns = PATTERNS;
-    text(out, &patterns);
+    out.text(PATTERNS);
 }
 
 // A tick, a broken triangle, a lock.
-const CHECK: [u8; 176] =
-    *b"<svg viewBox=\"0 0 18 18\" aria-hidden=\"true\"><path d=\"M3 9.5l4 4 8-9\" fill=\"none\" stroke=\"currentColor\" stroke-width=\"2.6\" stroke-linecap=\"round\" stroke-linejoin=\"round\"/></svg>";
+const CHECK: &[u8] =
+    b"<svg viewBox=\"0 0 18 18\" aria-hidden=\"true\"><path d=\"M3 9.5l4 4 8-9\" fill=\"none\" stroke=\"currentColor\" stroke-width=\"2.6\" stroke-linecap=\"round\" stroke-linejoin=\"round\"/></svg>";
 
-const BROKEN: [u8; 194] =
-    *b"<svg viewBox=\"0 0 18 18\" aria-hidden=\"true\"><path d=\"M9 2l7.5 13.5h-15zM9 7v4.2M9 13v.6\" fill=\"none\" stroke=\"currentColor\" stroke-width=\"2\" stroke-linecap=\"round\" stroke-linejoin=\"round\"/></svg>";
+const BROKEN: &[u8] =
+    b"<svg viewBox=\"0 0 18 18\" aria-hidden=\"true\"><path d=\"M9 2l7.5 13.5h-15zM9 7v4.2M9 13v.6\" fill=\"none\" stroke=\"currentColor\" stroke-width=\"2\" stroke-linecap=\"round\" stroke-linejoin=\"round\"/></svg>";
 
-const LOCK: [u8; 206] =
-    *b"<svg viewBox=\"0 0 10 11\" aria-hidden=\"true\"><rect x=\"1\" y=\"5\" width=\"8\" height=\"6\" rx=\"1\" fill=\"currentColor\"/><path d=\"M3 5V3.2a2 2 0 0 1 4 0V5\" fill=\"none\" stroke=\"currentColor\" stroke-width=\"1.4\"/></svg>";
+const LOCK: &[u8] =
+    b"<svg viewBox=\"0 0 10 11\" aria-hidden=\"true\"><rect x=\"1\" y=\"5\" width=\"8\" height=\"6\" rx=\"1\" fill=\"currentColor\"/><path d=\"M3 5V3.2a2 2 0 0 1 4 0V5\" fill=\"none\" stroke=\"currentColor\" stroke-width=\"1.4\"/></svg>";
 
 pub fn put_tick(out: &mut Out) {
-    let tick = CHECK;
-    text(out, &tick);
+    out.text(CHECK);
 }
 
 pub fn put_triangle(out: &mut Out) {
-    let triangle = BROKEN;
-    text(out, &triangle);
+    out.text(BROKEN);
 }
 
 pub fn put_padlock(out: &mut Out) {
-    let padlock = LOCK;
-    text(out, &padlock);
+    out.text(LOCK);
 }

@@ -4,44 +4,39 @@
 pub mod facts;
 
 use facts::{begin_fact, end_fact, put_source_chord};
-use tool_out::{Out, text};
+use tool_out::Out;
 use tool_page_keys::{put_keyboard, put_octaves};
 use tool_page_lanes::put_lane;
 use tool_page_sets::{RULE, SETTINGS, head, put_limits, put_setting};
-use tool_rows::row::{HAS_SECOND, ROWS, SECOND, byte_of};
+use tool_rows::row::Row;
 use tool_words::put_table;
 
-fn put_settings(out: &mut Out, rows: &[u8; ROWS], k: usize) {
+fn put_settings(out: &mut Out, row: &Row) {
     for n in RULE..SETTINGS {
-        let name = head(n);
-        begin_fact(out, &name);
-        put_setting(out, rows, k, 0, n);
+        begin_fact(out, head(n));
+        put_setting(out, row, 0, n);
         end_fact(out);
     }
 }
 
-fn put_second_table(out: &mut Out, rows: &[u8; ROWS], k: usize) {
-    if byte_of(rows, k, HAS_SECOND) == 0 {
-        return;
+fn put_second_table(out: &mut Out, row: &Row) {
+    if let Some(table) = row.second {
+        out.text(b"<div class=\"second\"><dt>second table</dt> <dd>");
+        put_table(out, 0, table);
+        end_fact(out);
     }
-    text(out, b"<div class=\"second\"><dt>second table</dt> <dd>");
-    put_table(out, 0, byte_of(rows, k, SECOND));
-    end_fact(out);
 }
 
-pub fn put_first(out: &mut Out, rows: &[u8; ROWS], k: usize) {
-    text(
-        out,
-        b"<div class=\"keys solo\" role=\"img\" aria-label=\"Note range: ",
-    );
-    put_limits(out, rows, k, 0);
-    text(out, b"\">");
+pub fn put_first(out: &mut Out, row: &Row) {
+    out.text(b"<div class=\"keys solo\" role=\"img\" aria-label=\"Note range: ");
+    put_limits(out, row, 0);
+    out.text(b"\">");
     put_keyboard(out);
-    put_lane(out, byte_of(rows, k, 23), byte_of(rows, k, 24));
+    put_lane(out, row.byte(23), row.byte(24));
     put_octaves(out);
-    text(out, b"</div><dl class=\"facts six\">");
-    put_source_chord(out, rows, k);
-    put_settings(out, rows, k);
-    put_second_table(out, rows, k);
-    text(out, b"</dl>");
+    out.text(b"</div><dl class=\"facts six\">");
+    put_source_chord(out, row);
+    put_settings(out, row);
+    put_second_table(out, row);
+    out.text(b"</dl>");
 }

@@ -1,7 +1,7 @@
 // A keyboard of 128 keys, and the names of its octaves.
 #![tactic(auto)]
 
-use tool_out::{Out, byte, number, text};
+use tool_out::Out;
 use tool_page_share::put_share;
 use tool_words::put_note;
 
@@ -22,15 +22,15 @@ fn is_parted(n: usize) -> bool {
 
 fn put_line(out: &mut Out, n: usize) {
     if is_dark(n) {
-        byte(out, b'M');
-        number(out, n);
-        text(out, b".5 12v8");
+        out.byte(b'M');
+        out.number(n);
+        out.text(b".5 12v8");
         return;
     }
     if is_parted(n) {
-        byte(out, b'M');
-        number(out, n);
-        text(out, b" 0v20");
+        out.byte(b'M');
+        out.number(n);
+        out.text(b" 0v20");
     }
 }
 
@@ -45,9 +45,9 @@ fn put_dark(out: &mut Out, n: usize) {
     if !is_dark(n) {
         return;
     }
-    byte(out, b'M');
-    number(out, n);
-    text(out, b" 0h1v12h-1z");
+    out.byte(b'M');
+    out.number(n);
+    out.text(b" 0h1v12h-1z");
 }
 
 // The dark keys.
@@ -58,8 +58,7 @@ pub fn put_darks(out: &mut Out) {
 }
 
 pub fn put_keyboard(out: &mut Out) {
-    text(
-        out,
+    out.text(
         b"<svg class=\"kb\" viewBox=\"0 0 128 20\" preserveAspectRatio=\"none\" aria-hidden=\"true\"><use href=\"#keys\"/></svg>",
     );
 }
@@ -71,18 +70,18 @@ pub fn put_at(out: &mut Out, n: usize) {
 
 fn put_octave(out: &mut Out, n: usize) {
     let note = OCTAVE * (n % 16);
-    text(out, b"<text x=\"");
+    out.text(b"<text x=\"");
     put_at(out, note);
-    text(out, b"\" y=\"10\">");
+    out.text(b"\" y=\"10\">");
     put_note(out, (note % 256) as u8);
-    text(out, b"</text>");
+    out.text(b"</text>");
 }
 
 // The names of the Cs.
 pub fn put_octaves(out: &mut Out) {
-    text(out, b"<svg class=\"oct\" aria-hidden=\"true\">");
+    out.text(b"<svg class=\"oct\" aria-hidden=\"true\">");
     for n in 0..11 {
         put_octave(out, n);
     }
-    text(out, b"</svg>");
+    out.text(b"</svg>");
 }

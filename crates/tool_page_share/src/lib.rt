@@ -1,8 +1,7 @@
 // Places on a scale, in per cent with three decimals, each as a floating-point number of 64 bits would be printed.
 #![tactic(auto)]
 
-use tool_bytes::{rest, sum};
-use tool_out::{Out, byte, number};
+use tool_out::Out;
 
 fn float(n: usize) -> f64 {
     std::num::nearest_u64_to_f64(n as u64)
@@ -31,7 +30,7 @@ fn above_float(odd: usize) -> usize {
         if 1 < high {
             high = high / 2;
         } else {
-            above = sum(above, above) % 2000;
+            above = above.saturating_add(above) % 2000;
         }
     }
     above
@@ -39,8 +38,8 @@ fn above_float(odd: usize) -> usize {
 
 // Half way between `whole` thousandths and one more: what the floating-point number is nearer to, and the even one where it is the half itself.
 fn at_half(whole: usize, value: f64) -> usize {
-    let next = sum(whole, 1);
-    let odd = sum(whole, next);
+    let next = whole.saturating_add(1);
+    let odd = whole.saturating_add(next);
     let half = float(odd) / 2000.0;
     if value < half {
         return whole;
@@ -69,28 +68,28 @@ fn thousandths(n: usize, of: usize, value: f64) -> usize {
     let all = 100000 * n;
     let whole = all / of;
     let below = all % of;
-    let above = rest(of, below);
+    let above = of.saturating_sub(below);
     if below < above {
         return whole;
     }
     if above < below {
-        return sum(whole, 1);
+        return whole.saturating_add(1);
     }
     at_half(whole, value)
 }
 
 fn put_digit(out: &mut Out, n: usize) {
     let digit = (n % 10) as u8;
-    byte(out, b'0' + digit);
+    out.byte(b'0' + digit);
 }
 
 fn put_thousandths(out: &mut Out, n: usize) {
-    number(out, n / 1000);
-    byte(out, b'.');
+    out.number(n / 1000);
+    out.byte(b'.');
     put_digit(out, n / 100);
     put_digit(out, n / 10);
     put_digit(out, n);
-    byte(out, b'%');
+    out.byte(b'%');
 }
 
 // n of `of`: `12.500%`.
@@ -101,6 +100,6 @@ pub fn put_share(out: &mut Out, n: usize, of: usize) {
 // The middle of what begins at `place` and is `length` long.
 pub fn put_middle(out: &mut Out, place: usize, length: usize, of: usize) {
     let value = per_cent(place, of) + per_cent(length, of) / 2.0;
-    let twice = sum(sum(place, place), length);
-    put_thousandths(out, thousandths(twice, sum(of, of), value));
+    let twice = place.saturating_add(place).saturating_add(length);
+    put_thousandths(out, thousandths(twice, of.saturating_add(of), value));
 }

@@ -1,8 +1,7 @@
 // The strips of a channel: a cell for each chord type, and the roots; filled where the channel plays.
 #![tactic(auto)]
 
-use tool_bytes::sum;
-use tool_out::{Out, byte, number, text};
+use tool_out::Out;
 use tool_words::masks::{AUTO_START, ROOTS, TYPES, held_of, is_held, put_chords, put_mask};
 use tool_words::{put_chord, put_root};
 
@@ -28,13 +27,13 @@ fn gaps(t: usize) -> usize {
 
 // Where the cell of a type begins.
 fn cell_place(t: usize) -> usize {
-    sum(10 * (t % 64), gaps(t))
+    (10 * (t % 64)).saturating_add(gaps(t))
 }
 
 fn put_cell(out: &mut Out, t: usize) {
-    byte(out, b'M');
-    number(out, cell_place(t));
-    text(out, b".5 .5h8v13h-8z");
+    out.byte(b'M');
+    out.number(cell_place(t));
+    out.text(b".5 .5h8v13h-8z");
 }
 
 // The cells of the types that a mask holds.
@@ -47,59 +46,55 @@ pub fn put_cells(out: &mut Out, mask: usize) {
 }
 
 fn put_type(out: &mut Out, t: usize) {
-    text(out, b"<text transform=\"translate(");
-    number(out, sum(cell_place(t), 7));
-    text(out, b".2 43) rotate(-90)\">");
+    out.text(b"<text transform=\"translate(");
+    out.number(cell_place(t).saturating_add(7));
+    out.text(b".2 43) rotate(-90)\">");
     put_chord(out, (t % 256) as u8);
-    text(out, b"</text>");
+    out.text(b"</text>");
 }
 
 // The names of the types, each above its cell.
 pub fn put_types(out: &mut Out) {
-    text(
-        out,
-        b"<svg class=\"strip\" viewBox=\"0 0 360 44\" aria-hidden=\"true\">",
-    );
+    out.text(b"<svg class=\"strip\" viewBox=\"0 0 360 44\" aria-hidden=\"true\">");
     for t in 0..TYPES {
         put_type(out, t);
     }
-    text(out, b"</svg>");
+    out.text(b"</svg>");
 }
 
 fn put_held(out: &mut Out, mask: usize) {
     if held_of(mask, TYPES) == 0 {
         return;
     }
-    text(out, b"<path class=\"held\" d=\"");
+    out.text(b"<path class=\"held\" d=\"");
     put_cells(out, mask);
-    text(out, b"\"/>");
+    out.text(b"\"/>");
 }
 
 // The chord types of a channel.
 pub fn put_chord_strip(out: &mut Out, mask: usize) {
-    text(
-        out,
+    out.text(
         b"<svg class=\"strip\" viewBox=\"0 0 360 14\" role=\"img\" aria-label=\"Chord types: ",
     );
     put_chords(out, mask);
-    text(out, b"\"><use href=\"#types\" class=\"grid\"/>");
+    out.text(b"\"><use href=\"#types\" class=\"grid\"/>");
     put_held(out, mask);
-    text(out, b"</svg><p class=\"words\"><b>Chord types</b> ");
+    out.text(b"</svg><p class=\"words\"><b>Chord types</b> ");
     put_mask(out, mask, TYPES);
     if is_held(mask, AUTO_START) {
-        text(out, b" <span class=\"tag\">auto start</span>");
+        out.text(b" <span class=\"tag\">auto start</span>");
     }
-    text(out, b"</p>");
+    out.text(b"</p>");
 }
 
 fn put_cell_of_root(out: &mut Out, r: usize, is_filled: bool) {
-    text(out, b"<i");
+    out.text(b"<i");
     if is_filled {
-        text(out, b" class=\"y\"");
+        out.text(b" class=\"y\"");
     }
-    byte(out, b'>');
+    out.byte(b'>');
     put_root(out, (r % 256) as u8);
-    text(out, b"</i>");
+    out.text(b"</i>");
 }
 
 fn put_cells_of_roots(out: &mut Out, mask: usize) {
@@ -110,11 +105,11 @@ fn put_cells_of_roots(out: &mut Out, mask: usize) {
 
 // The roots of a channel.
 pub fn put_root_strip(out: &mut Out, mask: usize) {
-    text(out, b"<div class=\"rts\" role=\"img\" aria-label=\"Roots: ");
+    out.text(b"<div class=\"rts\" role=\"img\" aria-label=\"Roots: ");
     put_mask(out, mask, ROOTS);
-    text(out, b"\">");
+    out.text(b"\">");
     put_cells_of_roots(out, mask);
-    text(out, b"</div><p class=\"words\"><b>Roots</b> ");
+    out.text(b"</div><p class=\"words\"><b>Roots</b> ");
     put_mask(out, mask, ROOTS);
-    text(out, b"</p>");
+    out.text(b"</p>");
 }

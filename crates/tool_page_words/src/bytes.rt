@@ -1,16 +1,16 @@
 // Bytes in hex: in rows of 16, and for a narrow window in rows of eight.
 use tool_dump::{Dump, put_dump};
-use tool_out::{HTML, Out, text};
+use tool_out::Out;
+use tool_out::shown::How;
 
 fn put_rows(out: &mut Out, name: &[u8], file: &[u8], dump: Dump, across: usize, is_counted: bool) {
-    text(out, b"<pre class=\"");
-    text(out, name);
-    text(
-        out,
+    out.text(b"<pre class=\"");
+    out.text(name);
+    out.text(
         b"\" tabindex=\"0\" aria-label=\"Bytes in hexadecimal; the byte in brackets is the place of the refusal\">",
     );
-    put_dump(out, HTML, file, dump, across, is_counted);
-    text(out, b"</pre>");
+    put_dump(out, How::Html, file, dump, across, is_counted);
+    out.text(b"</pre>");
 }
 
 pub fn put_bytes(out: &mut Out, file: &[u8], dump: Dump, is_counted: bool) {

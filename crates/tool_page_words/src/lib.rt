@@ -4,44 +4,17 @@
 pub mod bytes;
 pub mod parts;
 
-use tool_bytes::{byte_at, part, sum};
-use tool_look::list::{LIST, entry, is_loose, is_sound};
-use tool_out::{HTML, Out, byte, fail_with, held, memory_for, place, text, text_as, word, word_as};
+use tool_bytes::{byte_at, part};
+use tool_look::list::{Entry, Kind};
+use tool_out::Out;
+use tool_out::shown::How;
 use tool_parts::put_parts;
 use tool_reason::detail::{is_more, put_detail};
 use tool_reason::{Cause, cause_of_entry};
-use tool_words::reasons::reason;
+use tool_words::reasons::Reason;
 
-pub const SOUND: u8 = 0;
-
-pub const DAMAGED: u8 = 1;
-
-pub const LOOSE: u8 = 2;
-
-const KINDS: [[u8; 7]; 3] = [*b"sound  ", *b"damaged", *b"loose  "];
-
-pub fn kind_of(body: &[u8], list: &[usize; LIST], k: usize) -> u8 {
-    if is_sound(list, k) {
-        return SOUND;
-    }
-    if is_loose(body, list, k) {
-        return LOOSE;
-    }
-    DAMAGED
-}
-
-fn kind_name(kind: u8) -> [u8; 7] {
-    let rows = KINDS;
-    let n = kind as usize;
-    if n < 3 {
-        return rows[n];
-    }
-    rows[0]
-}
-
-pub fn put_kind(out: &mut Out, kind: u8) {
-    let name = kind_name(kind);
-    word(out, &name);
+pub fn put_kind(out: &mut Out, kind: Kind) {
+    out.text(kind.name());
 }
 
 // A letter as a capital.
@@ -54,23 +27,21 @@ fn upper(b: u8) -> u8 {
 
 fn put_upper(out: &mut Out, b: u8) {
     let letter = [upper(b)];
-    text_as(out, HTML, &letter);
+    out.text_as(How::Html, &letter);
 }
 
-// Words from a capital on, without the spaces that fill them up.
+// Words from a capital on.
 fn put_capital(out: &mut Out, words: &[u8]) {
     put_upper(out, byte_at(words, 0));
-    word_as(out, HTML, part(words, 1, words.len()));
+    out.text_as(How::Html, part(words, 1, words.len()));
 }
 
-pub fn put_kind_capital(out: &mut Out, kind: u8) {
-    let name = kind_name(kind);
-    put_capital(out, &name);
+pub fn put_kind_capital(out: &mut Out, kind: Kind) {
+    put_capital(out, kind.name());
 }
 
-pub fn put_reason_capital(out: &mut Out, case: u8) {
-    let words = reason(case);
-    put_capital(out, &words);
+pub fn put_reason_capital(out: &mut Out, case: Reason) {
+    put_capital(out, case.words());
 }
 
 // What else there is to say of a refusal of these bytes, as a paragraph.
@@ -78,41 +49,41 @@ pub fn put_more(out: &mut Out, s: &[u8], cause: Cause) {
     if !is_more(cause) {
         return;
     }
-    let mut memory = memory_for(out);
+    let mut memory = out.memory_for();
     put_detail(&mut memory, s, cause);
-    text(out, b"<p class=\"detail\">");
-    put_capital(out, held(&memory));
-    text(out, b"</p>");
-    fail_with(out, &memory);
+    out.text(b"<p class=\"detail\">");
+    put_capital(out, memory.held());
+    out.text(b"</p>");
+    out.fail_with(&memory);
 }
 
 // The parts of a group, or why an entry is none.
-pub fn put_title(out: &mut Out, body: &[u8], list: &[usize; LIST], k: usize) {
-    if is_sound(list, k) {
-        put_parts(out, HTML, casm::read::group_text(entry(body, list, k), 0));
+pub fn put_title(out: &mut Out, body: &[u8], entry: Entry) {
+    if entry.is_sound() {
+        put_parts(out, How::Html, casm::read::group_text(entry.bytes(body), 0));
         return;
     }
-    let cause = cause_of_entry(body, list, k);
+    let cause = cause_of_entry(body, entry);
     put_reason_capital(out, cause.case);
 }
 
 // A place of a body, in the file and in the body.
 pub fn put_places(out: &mut Out, from: usize, at: usize) {
-    place(out, sum(from, at));
-    text(out, b" in the file, ");
-    place(out, at);
-    text(out, b" in the body");
+    out.place(from.saturating_add(at));
+    out.text(b" in the file, ");
+    out.place(at);
+    out.text(b" in the body");
 }
 
 // How many bytes, and where in the body.
 pub fn put_where(out: &mut Out, from: usize, at: usize, length: usize) {
-    tool_out::count(out, length, b"byte", b"bytes");
-    text(out, b" at ");
+    out.count(length, b"byte", b"bytes");
+    out.text(b" at ");
     put_places(out, from, at);
 }
 
 // What names entry k in the page: `e1` for the first.
 pub fn put_id(out: &mut Out, k: usize) {
-    byte(out, b'e');
-    tool_out::number(out, sum(k, 1));
+    out.byte(b'e');
+    out.number(k.saturating_add(1));
 }

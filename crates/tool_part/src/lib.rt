@@ -6,40 +6,19 @@ pub mod plays;
 
 use casm::read::find_part;
 use tool_asked::body::{complain_no_part, complain_part, complain_unsound};
-use tool_asked::is_read;
-use tool_ends::{CANNOT, DONE, Host};
+use tool_asked::read;
+use tool_ends::{Cannot, Host};
 use tool_files::{FILE, contents};
-use tool_look::list::LIST;
-use tool_look::{SOUND, Seen, body_of, look};
+use tool_look::list::List;
+use tool_look::{Verdict, body_of, look};
 
-// A file that was read and whose body is sound: how long the file is, where the body begins and ends, and how many groups it has. The status is another than `DONE` where there is none, and then a line has said why.
+// A file that was read and whose body is sound: how long the file is, where the body begins and ends, and how many groups it has.
 #[derive(Clone, Copy)]
 pub struct Sound {
-    pub status: u8,
     pub length: usize,
     pub tag: usize,
     pub body: usize,
     pub groups: usize,
-}
-
-fn none() -> Sound {
-    Sound {
-        status: CANNOT,
-        length: 0,
-        tag: 0,
-        body: 0,
-        groups: 0,
-    }
-}
-
-fn sound_of(length: usize, seen: Seen) -> Sound {
-    Sound {
-        status: DONE,
-        length: length,
-        tag: seen.tag,
-        body: seen.length,
-        groups: seen.count,
-    }
 }
 
 fn seen_of(
@@ -47,23 +26,29 @@ fn seen_of(
     command: &[u8],
     path: &[u8],
     file: &[u8],
-    list: &mut [usize; LIST],
-) -> Sound {
+    list: &mut List,
+) -> Result<Sound, Cannot> {
     let seen = look(file, list);
-    if seen.verdict != SOUND {
-        complain_unsound(rt, command, path, file, list, seen);
-        return none();
+    match seen.found {
+        Some(found) if seen.verdict == Verdict::Sound => Ok(Sound {
+            length: file.len(),
+            tag: found.tag,
+            body: found.length,
+            groups: found.count,
+        }),
+        _ => Err(complain_unsound(rt, command, path, file, list, seen)),
     }
-    sound_of(file.len(), seen)
 }
 
 // Reads the file that a path names.
-pub fn read_sound(rt: &impl Host, command: &[u8], path: &[u8], bytes: &mut [u8; FILE]) -> Sound {
-    let mut length: usize = 0;
-    let mut list = tool_look::list::room();
-    if !is_read(rt, path, bytes, &mut length) {
-        return none();
-    }
+pub fn read_sound(
+    rt: &impl Host,
+    command: &[u8],
+    path: &[u8],
+    bytes: &mut [u8; FILE],
+) -> Result<Sound, Cannot> {
+    let mut list = List::new();
+    let length = read(rt, path, bytes)?;
     seen_of(rt, command, path, contents(bytes, length), &mut list)
 }
 
@@ -73,20 +58,19 @@ pub fn body_in<'a>(bytes: &'a [u8; FILE], sound: Sound) -> &'a [u8] {
 }
 
 // Whether the body has a part; else a line says which it has.
-pub fn is_part(
+pub fn check_part(
     rt: &impl Host,
     command: &[u8],
     path: &[u8],
     body: &[u8],
     sound: Sound,
     name: &[u8],
-) -> bool {
+) -> Result<(), Cannot> {
     let found = find_part(body, name);
     if found.number != 0 {
-        complain_part(rt, command, name, path, body, sound.groups);
-        return false;
+        return Err(complain_part(rt, command, name, path, body, sound.groups));
     }
-    true
+    Ok(())
 }
 
 // No part is named.
@@ -96,6 +80,6 @@ pub fn complain_missing(
     path: &[u8],
     body: &[u8],
     sound: Sound,
-) -> u8 {
+) -> Cannot {
     complain_no_part(rt, command, path, body, sound.groups)
 }

@@ -3,9 +3,10 @@
 
 use casm::read::read_section;
 use layout::refusal::{CUT, TAG_AGAIN};
-use tool_bytes::{byte_at, part, rest, sum};
-use tool_look::{NO_STYLE, Seen};
-use tool_out::{Out, byte, text, text_as};
+use tool_bytes::{byte_at, part};
+use tool_look::{Seen, Verdict};
+use tool_out::Out;
+use tool_out::shown::How;
 use tool_reason::detail::name_end;
 
 fn has_quote(name: &[u8]) -> bool {
@@ -22,43 +23,43 @@ fn is_quoted(name: &[u8]) -> bool {
     if byte_at(name, 0) == b' ' {
         return true;
     }
-    if byte_at(name, rest(name.len(), 1)) == b' ' {
+    if byte_at(name, name.len().saturating_sub(1)) == b' ' {
         return true;
     }
     has_quote(name)
 }
 
-pub fn put_part(out: &mut Out, how: u8, name: &[u8]) {
+pub fn put_part(out: &mut Out, how: How, name: &[u8]) {
     if !is_quoted(name) {
-        text_as(out, how, name);
+        out.text_as(how, name);
         return;
     }
-    text_as(out, how, b"\"");
-    text_as(out, how, name);
-    text_as(out, how, b"\"");
+    out.text_as(how, b"\"");
+    out.text_as(how, name);
+    out.text_as(how, b"\"");
 }
 
 // The names of a list, a comma and a space between two.
-pub fn put_parts(out: &mut Out, how: u8, list: &[u8]) {
+pub fn put_parts(out: &mut Out, how: How, list: &[u8]) {
     let end = list.len();
     let mut from: usize = 0;
-    for _ in 0..sum(end, 1) {
+    for _ in 0..end.saturating_add(1) {
         let ended = name_end(list, from, end);
-        put_part(out, how, part(list, from, rest(ended, from)));
+        put_part(out, how, part(list, from, ended.saturating_sub(from)));
         if end <= ended {
             return;
         }
-        text(out, b", ");
-        from = sum(ended, 1);
+        out.text(b", ");
+        from = ended.saturating_add(1);
     }
 }
 
 // Up to where the sections of a file can be followed.
 pub fn sections_end(file: &[u8], seen: Seen) -> usize {
-    if seen.verdict == NO_STYLE {
+    if seen.verdict == Verdict::NoStyle {
         return 0;
     }
-    if seen.is_body {
+    if seen.found.is_some() {
         return file.len();
     }
     if seen.number == CUT || seen.number == TAG_AGAIN {
@@ -73,7 +74,7 @@ pub fn next_section(file: &[u8], tag: usize) -> usize {
     if found.number != 0 {
         return file.len();
     }
-    sum(sum(tag, 8), found.length)
+    tag.saturating_add(8).saturating_add(found.length)
 }
 
 pub fn section_length(file: &[u8], tag: usize) -> usize {
@@ -82,13 +83,13 @@ pub fn section_length(file: &[u8], tag: usize) -> usize {
 }
 
 // The tag of a section as it is shown.
-pub fn put_tag(out: &mut Out, how: u8, file: &[u8], tag: usize) {
-    text_as(out, how, part(file, tag, 4));
+pub fn put_tag(out: &mut Out, how: How, file: &[u8], tag: usize) {
+    out.text_as(how, part(file, tag, 4));
 }
 
 // A text in quotes, as JSON has it.
 pub fn put_json(out: &mut Out, words: &[u8]) {
-    byte(out, b'"');
-    text_as(out, tool_out::JSON, words);
-    byte(out, b'"');
+    out.byte(b'"');
+    out.text_as(How::Json, words);
+    out.byte(b'"');
 }

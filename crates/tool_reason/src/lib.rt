@@ -6,91 +6,57 @@ pub mod range;
 
 use casm::list::judge_entry;
 use layout::refusal;
-use tool_bytes::{is_tag, part, rest, sum, word_at};
-use tool_look::list::{LIST, entry, is_loose, is_sound, length_of, place_of};
-use tool_look::{Seen, body_of};
-use tool_words::reasons;
+use tool_bytes::{is_tag, part, word_at};
+use tool_look::Seen;
+use tool_look::list::{Entry, List};
+use tool_words::reasons::Reason;
 
 // A refusal: its number, its case, and its place in the bytes that it speaks of, a file's or a body's. The group or the section that it stands in begins at `start`, and what it must not run past ends at `end`.
 #[derive(Clone, Copy)]
 pub struct Cause {
     pub number: u8,
-    pub case: u8,
+    pub case: Reason,
     pub place: usize,
     pub start: usize,
     pub end: usize,
 }
 
 // The case of a number that has one alone.
-fn only_case(number: u8) -> u8 {
-    if number == refusal::NOT_STYLE {
-        return reasons::NOT_STYLE;
+fn only_case(number: u8) -> Reason {
+    match number {
+        refusal::NOT_STYLE => Reason::NotStyle,
+        refusal::TAG_AGAIN => Reason::TagAgain,
+        refusal::NO_CASM => Reason::NoCasm,
+        refusal::BAD_SIZE => Reason::BadSize,
+        refusal::BAD_TEXT => Reason::BadText,
+        refusal::OUT_OF_RANGE => Reason::OutOfRange,
+        refusal::CHANNEL_AGAIN => Reason::ChannelAgain,
+        refusal::STRAY_CNTT => Reason::StrayCntt,
+        refusal::TOO_MANY_GROUPS => Reason::TooManyGroups,
+        refusal::NAME_AGAIN => Reason::NameAgain,
+        refusal::OTHER_EDITION => Reason::OtherEdition,
+        refusal::READ_ONLY => Reason::ReadOnly,
+        refusal::ROOT_FIXED => Reason::NotByRoot,
+        _ => Reason::BadNumber,
     }
-    if number == refusal::TAG_AGAIN {
-        return reasons::TAG_AGAIN;
-    }
-    if number == refusal::NO_CASM {
-        return reasons::NO_CASM;
-    }
-    if number == refusal::BAD_SIZE {
-        return reasons::BAD_SIZE;
-    }
-    if number == refusal::BAD_TEXT {
-        return reasons::BAD_TEXT;
-    }
-    if number == refusal::OUT_OF_RANGE {
-        return reasons::OUT_OF_RANGE;
-    }
-    later_case(number)
 }
 
-fn later_case(number: u8) -> u8 {
-    if number == refusal::CHANNEL_AGAIN {
-        return reasons::CHANNEL_AGAIN;
+fn file_case(file: &[u8], number: u8, place: usize) -> Reason {
+    match number {
+        refusal::CUT if file.len().saturating_sub(place) < 8 => Reason::HeaderCut,
+        refusal::CUT => Reason::SectionPast,
+        refusal::OVER_LIMIT if place == 0 => Reason::FileOver,
+        refusal::OVER_LIMIT => Reason::BodyOver,
+        _ => only_case(number),
     }
-    if number == refusal::STRAY_CNTT {
-        return reasons::STRAY_CNTT;
-    }
-    if number == refusal::TOO_MANY_GROUPS {
-        return reasons::TOO_MANY_GROUPS;
-    }
-    if number == refusal::NAME_AGAIN {
-        return reasons::NAME_AGAIN;
-    }
-    if number == refusal::OTHER_EDITION {
-        return reasons::OTHER_EDITION;
-    }
-    if number == refusal::READ_ONLY {
-        return reasons::READ_ONLY;
-    }
-    if number == refusal::ROOT_FIXED {
-        return reasons::NOT_BY_ROOT;
-    }
-    reasons::BAD_NUMBER
-}
-
-fn file_case(file: &[u8], number: u8, place: usize) -> u8 {
-    if number == refusal::CUT {
-        if rest(file.len(), place) < 8 {
-            return reasons::HEADER_CUT;
-        }
-        return reasons::SECTION_PAST;
-    }
-    if number == refusal::OVER_LIMIT {
-        if place == 0 {
-            return reasons::FILE_OVER;
-        }
-        return reasons::BODY_OVER;
-    }
-    only_case(number)
 }
 
 // A refusal of a file: no CASM body is found in it.
 pub fn cause_of_file(file: &[u8], number: u8, place: usize) -> Cause {
     Cause {
-        number: number,
+        number,
         case: file_case(file, number, place),
-        place: place,
+        place,
         start: place,
         end: file.len(),
     }
@@ -101,61 +67,57 @@ pub fn parent_end(piece: &[u8], q: usize) -> usize {
     if q == 0 {
         return piece.len();
     }
-    sum(8, word_at(piece, 4))
+    word_at(piece, 4).saturating_add(8)
 }
 
 // The case of 2 at place q of a piece.
-fn cut_case(piece: &[u8], q: usize, is_last: bool) -> u8 {
-    if rest(parent_end(piece, q), q) < 8 {
-        return reasons::HEADER_CUT;
+fn cut_case(piece: &[u8], q: usize, is_last: bool) -> Reason {
+    if parent_end(piece, q).saturating_sub(q) < 8 {
+        return Reason::HeaderCut;
     }
     if 0 < q {
-        return reasons::CHUNK_PAST;
+        return Reason::ChunkPast;
     }
     if is_last {
-        return reasons::LAST_GROUP_PAST;
+        return Reason::LastGroupPast;
     }
-    reasons::GROUP_PAST
+    Reason::GroupPast
 }
 
-fn group_case(piece: &[u8], number: u8, q: usize, is_last: bool) -> u8 {
-    if number == refusal::CUT {
-        return cut_case(piece, q, is_last);
+fn group_case(piece: &[u8], number: u8, q: usize, is_last: bool) -> Reason {
+    match number {
+        refusal::CUT => cut_case(piece, q, is_last),
+        refusal::BAD_TAG if q == 0 && is_tag(piece, 0, b"CSEG") => Reason::EmptyGroup,
+        refusal::BAD_TAG => Reason::BadTag,
+        _ => only_case(number),
     }
-    if number == refusal::BAD_TAG {
-        if q == 0 && is_tag(piece, 0, b"CSEG") {
-            return reasons::EMPTY_GROUP;
-        }
-        return reasons::BAD_TAG;
-    }
-    only_case(number)
 }
 
 fn loose(start: usize, end: usize) -> Cause {
     Cause {
         number: refusal::BAD_TAG,
-        case: reasons::LOOSE,
+        case: Reason::Loose,
         place: start,
-        start: start,
-        end: end,
+        start,
+        end,
     }
 }
 
-// The refusal of entry k, judged by its bytes alone.
-pub fn cause_of_entry(body: &[u8], list: &[usize; LIST], k: usize) -> Cause {
-    let start = place_of(list, k);
-    let end = sum(start, length_of(list, k));
-    if is_loose(body, list, k) {
+// The refusal of an entry, judged by its bytes alone.
+pub fn cause_of_entry(body: &[u8], entry: Entry) -> Cause {
+    let start = entry.place;
+    let end = start.saturating_add(entry.length);
+    if entry.is_loose(body) {
         return loose(start, end);
     }
-    let piece = entry(body, list, k);
+    let piece = entry.bytes(body);
     let judged = judge_entry(piece);
     Cause {
         number: judged.number,
         case: group_case(piece, judged.number, judged.place, end == body.len()),
-        place: sum(start, judged.place),
-        start: start,
-        end: end,
+        place: start.saturating_add(judged.place),
+        start,
+        end,
     }
 }
 
@@ -163,8 +125,8 @@ pub fn cause_of_entry(body: &[u8], list: &[usize; LIST], k: usize) -> Cause {
 fn group_start(body: &[u8], place: usize) -> usize {
     let mut at: usize = 0;
     for _ in 0..body.len() {
-        let judged = judge_entry(part(body, at, rest(body.len(), at)));
-        let next = sum(at, judged.length);
+        let judged = judge_entry(part(body, at, body.len().saturating_sub(at)));
+        let next = at.saturating_add(judged.length);
         if judged.number != 0 || place < next {
             return at;
         }
@@ -175,50 +137,45 @@ fn group_start(body: &[u8], place: usize) -> usize {
 
 fn strict_cause(body: &[u8], number: u8, place: usize) -> Cause {
     let start = group_start(body, place);
-    let piece = part(body, start, rest(body.len(), start));
+    let piece = part(body, start, body.len().saturating_sub(start));
     Cause {
-        number: number,
-        case: group_case(piece, number, rest(place, start), true),
-        place: place,
-        start: start,
+        number,
+        case: group_case(piece, number, place.saturating_sub(start), true),
+        place,
+        start,
         end: body.len(),
     }
 }
 
-// The entry that has a place, or how many there are.
-fn entry_with(list: &[usize; LIST], count: usize, place: usize) -> usize {
+// The entry that has a place.
+fn entry_with(list: &List, count: usize, place: usize) -> Option<Entry> {
     for k in 0..count {
-        if place < sum(place_of(list, k), length_of(list, k)) {
-            return k;
+        let entry = list.at(k);
+        if place < entry.place.saturating_add(entry.length) {
+            return Some(entry);
         }
     }
-    count
+    None
 }
 
 // The refusal of a body. Where the entry there is refused with the same number at the same place its words are used, for it knows the next group.
-pub fn cause_of_body(
-    body: &[u8],
-    list: &[usize; LIST],
-    count: usize,
-    number: u8,
-    place: usize,
-) -> Cause {
-    let k = entry_with(list, count, place);
-    if is_sound(list, k) {
-        return strict_cause(body, number, place);
-    }
-    let cause = cause_of_entry(body, list, k);
-    if cause.number == number && cause.place == place {
-        return cause;
+pub fn cause_of_body(body: &[u8], list: &List, count: usize, number: u8, place: usize) -> Cause {
+    if let Some(entry) = entry_with(list, count, place) {
+        if !entry.is_sound() {
+            let cause = cause_of_entry(body, entry);
+            if cause.number == number && cause.place == place {
+                return cause;
+            }
+        }
     }
     strict_cause(body, number, place)
 }
 
 // The refusal of a file that was looked at: of the file, or of its body.
-pub fn cause_of(file: &[u8], list: &[usize; LIST], seen: Seen) -> Cause {
-    if !seen.is_body {
+pub fn cause_of(file: &[u8], list: &List, seen: Seen) -> Cause {
+    if seen.found.is_none() {
         return cause_of_file(file, seen.number, seen.place);
     }
-    let body = body_of(file, seen.tag, seen.length);
-    cause_of_body(body, list, seen.count, seen.number, seen.place)
+    let body = seen.body(file);
+    cause_of_body(body, list, seen.count(), seen.number, seen.place)
 }

@@ -1,130 +1,123 @@
 // The first screen of a report: what the file is, and the refusal with its place and the bytes there.
-use tool_bytes::{least, rest, sum};
 use tool_dump::{Dump, put_dump};
 use tool_entries::put_refusal;
-use tool_look::list::LIST;
+use tool_look::list::List;
 use tool_look::totals::{Totals, editions, totals_of};
-use tool_look::{DAMAGED, NO_CASM, SOUND, Seen, body_of, body_place, file_place};
-use tool_out::{
-    Out, PLAIN, SHOWN, clear, count, end_line, fill, number, place, text, text_as, word,
-};
+use tool_look::{Seen, Verdict};
+use tool_out::Out;
+use tool_out::shown::How;
 use tool_reason::cause_of;
 use tool_table::cut::put_wrapped;
 use tool_words::names;
 
 fn put_sound(out: &mut Out, totals: Totals) {
-    count(out, totals.sound, b"group", b"groups");
-    text(out, b", ");
-    count(out, totals.parts, b"part", b"parts");
-    text(out, b", ");
-    count(out, totals.channels, b"channel", b"channels");
-    text(out, b", ");
-    let name = names::edition(editions(totals));
-    word(out, &name);
+    out.count(totals.sound, b"group", b"groups");
+    out.text(b", ");
+    out.count(totals.parts, b"part", b"parts");
+    out.text(b", ");
+    out.count(totals.channels, b"channel", b"channels");
+    out.text(b", ");
+    out.text(names::edition(editions(totals)));
 }
 
 fn put_damaged(out: &mut Out, seen: Seen, totals: Totals) {
-    if sum(totals.damaged, totals.loose) == 0 {
-        text(
-            out,
-            b"every group is sound by itself, the body as a whole is refused",
-        );
+    if totals.damaged.saturating_add(totals.loose) == 0 {
+        out.text(b"every group is sound by itself, the body as a whole is refused");
         return;
     }
-    count(out, seen.count, b"entry", b"entries");
-    text(out, b": ");
-    number(out, totals.sound);
-    text(out, b" sound, ");
-    number(out, totals.damaged);
-    text(out, b" damaged, ");
-    number(out, totals.loose);
-    text(out, b" loose");
+    out.count(seen.count(), b"entry", b"entries");
+    out.text(b": ");
+    out.number(totals.sound);
+    out.text(b" sound, ");
+    out.number(totals.damaged);
+    out.text(b" damaged, ");
+    out.number(totals.loose);
+    out.text(b" loose");
 }
 
 // What a file is, in a line; nothing of a file without CASM, and of one that is no style file.
-pub fn put_summary(out: &mut Out, file: &[u8], list: &[usize; LIST], seen: Seen) {
-    if seen.verdict == SOUND {
-        let body = body_of(file, seen.tag, seen.length);
-        put_sound(out, totals_of(body, list, seen.count));
+pub fn put_summary(out: &mut Out, file: &[u8], list: &List, seen: Seen) {
+    if seen.verdict == Verdict::Sound {
+        let body = seen.body(file);
+        put_sound(out, totals_of(body, list, seen.count()));
         return;
     }
-    if seen.is_body {
-        let body = body_of(file, seen.tag, seen.length);
-        put_damaged(out, seen, totals_of(body, list, seen.count));
+    if seen.found.is_some() {
+        let body = seen.body(file);
+        put_damaged(out, seen, totals_of(body, list, seen.count()));
         return;
     }
-    if seen.verdict == DAMAGED {
-        text(out, b"the sections of the file cannot be followed");
+    if seen.verdict == Verdict::Damaged {
+        out.text(b"the sections of the file cannot be followed");
     }
 }
 
 // The verdict as the first line has it.
-fn put_verdict(out: &mut Out, verdict: u8) {
-    if verdict == SOUND {
-        text(out, b"SOUND");
+fn put_verdict(out: &mut Out, verdict: Verdict) {
+    if verdict == Verdict::Sound {
+        out.text(b"SOUND");
         return;
     }
-    if verdict == DAMAGED {
-        text(out, b"DAMAGED");
+    if verdict == Verdict::Damaged {
+        out.text(b"DAMAGED");
         return;
     }
-    let words = tool_look::verdict_words(verdict);
-    word(out, &words);
+    out.text(verdict.words());
 }
 
-pub fn put_head(out: &mut Out, name: &[u8], file: &[u8], list: &[usize; LIST], seen: Seen) {
-    text_as(out, SHOWN, name);
-    text(out, b": ");
+pub fn put_head(out: &mut Out, name: &[u8], file: &[u8], list: &List, seen: Seen) {
+    out.text_as(How::Shown, name);
+    out.text(b": ");
     put_verdict(out, seen.verdict);
-    end_line(out);
-    if seen.verdict == SOUND || seen.verdict == DAMAGED {
-        text(out, b"  ");
+    out.end_line();
+    if seen.verdict == Verdict::Sound || seen.verdict == Verdict::Damaged {
+        out.text(b"  ");
         put_summary(out, file, list, seen);
-        end_line(out);
+        out.end_line();
     }
 }
 
 // Its place in the file, and in the body where there is one, and 32 bytes from there on.
 fn put_there(out: &mut Out, words: &mut Out, file: &[u8], seen: Seen) {
-    let at = file_place(seen);
-    clear(words);
-    text(words, b"at ");
-    place(words, at);
-    text(words, b" in the file");
-    if seen.is_body {
-        text(words, b", ");
-        place(words, seen.place);
-        text(words, b" in the body");
+    let at = seen.file_place();
+    words.clear();
+    words.text(b"at ");
+    words.place(at);
+    words.text(b" in the file");
+    if seen.found.is_some() {
+        words.text(b", ");
+        words.place(seen.place);
+        words.text(b" in the body");
     }
-    fill(out, b' ', 2);
+    out.fill(b' ', 2);
     put_wrapped(out, words, 2, false);
-    put_dump(out, PLAIN, file, dump_of(file, seen), 16, false);
+    put_dump(out, How::Plain, file, dump_of(file, seen), 16, false);
 }
 
 // The bytes that are shown with the refusal of a file or a body: up to 32 of them, the first one marked.
 pub fn dump_of(file: &[u8], seen: Seen) -> Dump {
-    let at = file_place(seen);
+    let at = seen.file_place();
     let mut end = file.len();
-    if seen.is_body {
-        end = sum(body_place(seen), seen.length);
+    if seen.found.is_some() {
+        end = seen.body_place().saturating_add(seen.body_length());
     }
     Dump {
         start: at,
-        length: least(32, rest(end, at)),
+        length: end.saturating_sub(at).min(32),
         mark: at,
         is_marked: true,
     }
 }
 
 // The refusal, where there is one; that there is no CASM is said already.
-pub fn put_refused(out: &mut Out, words: &mut Out, file: &[u8], list: &[usize; LIST], seen: Seen) {
-    if seen.verdict == SOUND || seen.verdict == NO_CASM {
+pub fn put_refused(out: &mut Out, words: &mut Out, file: &[u8], list: &List, seen: Seen) {
+    if seen.verdict == Verdict::Sound || seen.verdict == Verdict::NoCasm {
         return;
     }
-    end_line(out);
+    out.end_line();
     let cause = cause_of(file, list, seen);
-    if seen.is_body {
-        put_refusal(out, words, body_of(file, seen.tag, seen.length), cause, 0);
+    if seen.found.is_some() {
+        put_refusal(out, words, seen.body(file), cause, 0);
     } else {
         put_refusal(out, words, file, cause, 0);
     }

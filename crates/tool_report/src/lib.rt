@@ -7,35 +7,26 @@ pub mod listing;
 use head::{put_head, put_refused};
 use listing::{put_listing, put_sections};
 use tool_entries::put_entry;
-use tool_look::list::LIST;
-use tool_look::{Seen, body_of};
-use tool_out::{Out, fail_with, memory_for};
-use tool_rows::row::ROWS;
+use tool_look::Seen;
+use tool_look::list::List;
+use tool_out::Out;
 
-fn put_entries(
-    out: &mut Out,
-    words: &mut Out,
-    rows: &mut [u8; ROWS],
-    file: &[u8],
-    list: &[usize; LIST],
-    seen: Seen,
-) {
-    let body = body_of(file, seen.tag, seen.length);
-    for k in 0..seen.count {
-        put_entry(out, words, rows, file, body, list, seen, k);
+fn put_entries(out: &mut Out, words: &mut Out, file: &[u8], list: &List, seen: Seen) {
+    let body = seen.body(file);
+    for k in 0..seen.count() {
+        put_entry(out, words, file, body, list.at(k), seen, k);
     }
 }
 
 // The report of a file that was looked at.
-pub fn report(out: &mut Out, name: &[u8], file: &[u8], list: &[usize; LIST], seen: Seen) {
-    let mut words = memory_for(out);
-    let mut rows = tool_rows::row::room();
+pub fn report(out: &mut Out, name: &[u8], file: &[u8], list: &List, seen: Seen) {
+    let mut words = out.memory_for();
     put_head(out, name, file, list, seen);
     put_refused(out, &mut words, file, list, seen);
-    if seen.is_body {
+    if seen.found.is_some() {
         put_listing(out, &mut words, file, list, seen);
     }
     put_sections(out, &mut words, file, seen);
-    put_entries(out, &mut words, &mut rows, file, list, seen);
-    fail_with(out, &words);
+    put_entries(out, &mut words, file, list, seen);
+    out.fail_with(&words);
 }

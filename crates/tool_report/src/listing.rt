@@ -1,15 +1,14 @@
 // The lists of a report: the groups or the entries of the body, and the sections of the file.
 use casm::read::group_text;
-use tool_bytes::sum;
-use tool_look::list::{LIST, entry, is_loose, is_sound, length_of, place_of};
+use tool_look::list::{Entry, List};
 use tool_look::totals::channels_of;
-use tool_look::{SOUND, Seen, body_of, body_place};
-use tool_out::{Out, PLAIN, SHOWN, clear, count, hex, number, place, text};
+use tool_look::{Seen, Verdict};
+use tool_out::Out;
+use tool_out::shown::How;
 use tool_parts::{next_section, put_parts, put_tag, section_length, sections_end};
 use tool_reason::cause_of_entry;
 use tool_table::row::put_row;
 use tool_table::{COLUMNS, limit_all, measure, next_cell};
-use tool_words::reasons::put_reason;
 
 const GROUP_RIGHTS: [bool; COLUMNS] = [true, true, true, true, true, false, false, false];
 
@@ -18,72 +17,72 @@ const ENTRY_RIGHTS: [bool; COLUMNS] = [true, true, true, true, false, false, fal
 const SECTION_RIGHTS: [bool; COLUMNS] = [false, true, true, true, false, false, false, false];
 
 fn listing_head(row: &mut Out, seen: Seen) {
-    clear(row);
-    if seen.verdict == SOUND {
-        text(row, b"no.\0place\0hex\0length\0channels\0parts");
+    row.clear();
+    if seen.verdict == Verdict::Sound {
+        row.text(b"no.\0place\0hex\0length\0channels\0parts");
         return;
     }
-    text(row, b"no.\0place\0hex\0length\0kind\0parts, or refusal");
+    row.text(b"no.\0place\0hex\0length\0kind\0parts, or refusal");
 }
 
 // A place and a length, in two cells and one.
 fn put_bounds(row: &mut Out, at: usize, length: usize) {
-    number(row, at);
+    row.number(at);
     next_cell(row);
-    hex(row, at);
+    row.hex(at);
     next_cell(row);
-    number(row, length);
+    row.number(length);
     next_cell(row);
 }
 
 // The kind of an entry that is no sound group, and why it is none.
-fn put_refused(row: &mut Out, body: &[u8], list: &[usize; LIST], k: usize) {
-    if is_loose(body, list, k) {
-        text(row, b"loose");
+fn put_refused(row: &mut Out, body: &[u8], entry: Entry) {
+    if entry.is_loose(body) {
+        row.text(b"loose");
     } else {
-        text(row, b"damaged");
+        row.text(b"damaged");
     }
     next_cell(row);
-    let cause = cause_of_entry(body, list, k);
-    number(row, cause.number as usize);
-    text(row, b": ");
-    put_reason(row, PLAIN, cause.case);
+    let cause = cause_of_entry(body, entry);
+    row.number(cause.number as usize);
+    row.text(b": ");
+    row.text(cause.case.words());
 }
 
-fn listing_row(row: &mut Out, body: &[u8], list: &[usize; LIST], seen: Seen, k: usize) {
-    clear(row);
-    number(row, sum(k, 1));
+fn listing_row(row: &mut Out, body: &[u8], entry: Entry, seen: Seen, k: usize) {
+    row.clear();
+    row.number(k.saturating_add(1));
     next_cell(row);
     put_bounds(
         row,
-        sum(body_place(seen), place_of(list, k)),
-        length_of(list, k),
+        seen.body_place().saturating_add(entry.place),
+        entry.length,
     );
-    if !is_sound(list, k) {
-        put_refused(row, body, list, k);
+    if !entry.is_sound() {
+        put_refused(row, body, entry);
         return;
     }
-    let group = entry(body, list, k);
-    if seen.verdict == SOUND {
-        number(row, channels_of(group));
+    let group = entry.bytes(body);
+    if seen.verdict == Verdict::Sound {
+        row.number(channels_of(group));
     } else {
-        text(row, b"sound");
+        row.text(b"sound");
     }
     next_cell(row);
-    put_parts(row, SHOWN, group_text(group, 0));
+    put_parts(row, How::Shown, group_text(group, 0));
 }
 
 fn measure_listing(
     widths: &mut [usize; COLUMNS],
     row: &mut Out,
     body: &[u8],
-    list: &[usize; LIST],
+    list: &List,
     seen: Seen,
 ) {
     listing_head(row, seen);
     measure(widths, row);
-    for k in 0..seen.count {
-        listing_row(row, body, list, seen, k);
+    for k in 0..seen.count() {
+        listing_row(row, body, list.at(k), seen, k);
         measure(widths, row);
     }
 }
@@ -93,29 +92,29 @@ fn put_rows(
     row: &mut Out,
     widths: &[usize; COLUMNS],
     body: &[u8],
-    list: &[usize; LIST],
+    list: &List,
     seen: Seen,
 ) {
     let mut rights = ENTRY_RIGHTS;
-    if seen.verdict == SOUND {
+    if seen.verdict == Verdict::Sound {
         rights = GROUP_RIGHTS;
     }
     listing_head(row, seen);
     put_row(out, row, widths, 2, rights);
-    for k in 0..seen.count {
-        listing_row(row, body, list, seen, k);
+    for k in 0..seen.count() {
+        listing_row(row, body, list.at(k), seen, k);
         put_row(out, row, widths, 2, rights);
     }
 }
 
 // The groups of a sound body, or the entries of any other.
-pub fn put_listing(out: &mut Out, row: &mut Out, file: &[u8], list: &[usize; LIST], seen: Seen) {
-    let body = body_of(file, seen.tag, seen.length);
+pub fn put_listing(out: &mut Out, row: &mut Out, file: &[u8], list: &List, seen: Seen) {
+    let body = seen.body(file);
     let mut widths = [0usize; COLUMNS];
-    if seen.verdict == SOUND {
-        text(out, b"\nGroups\n");
+    if seen.verdict == Verdict::Sound {
+        out.text(b"\nGroups\n");
     } else {
-        text(out, b"\nEntries of the body, in file order\n");
+        out.text(b"\nEntries of the body, in file order\n");
     }
     measure_listing(&mut widths, row, body, list, seen);
     limit_all(&mut widths, [4, 7, 7, 6, 8, 24, 0, 0], 2, 5);
@@ -123,18 +122,18 @@ pub fn put_listing(out: &mut Out, row: &mut Out, file: &[u8], list: &[usize; LIS
 }
 
 fn sections_head(row: &mut Out) {
-    clear(row);
-    text(row, b"section\0place\0hex\0length\0");
+    row.clear();
+    row.text(b"section\0place\0hex\0length\0");
 }
 
 fn section_row(row: &mut Out, file: &[u8], seen: Seen, tag: usize) {
-    clear(row);
-    put_tag(row, SHOWN, file, tag);
+    row.clear();
+    put_tag(row, How::Shown, file, tag);
     next_cell(row);
     put_bounds(row, tag, section_length(file, tag));
-    if seen.is_body && tag == seen.tag {
-        text(row, b"body at ");
-        place(row, sum(tag, 8));
+    if seen.is_at(tag) {
+        row.text(b"body at ");
+        row.place(tag.saturating_add(8));
     }
 }
 
@@ -181,9 +180,9 @@ fn put_section_rows(
 
 // The size of the file, and its sections as far as they can be followed.
 pub fn put_sections(out: &mut Out, row: &mut Out, file: &[u8], seen: Seen) {
-    text(out, b"\nFile: ");
-    count(out, file.len(), b"byte", b"bytes");
-    text(out, b"\n");
+    out.text(b"\nFile: ");
+    out.count(file.len(), b"byte", b"bytes");
+    out.text(b"\n");
     let end = sections_end(file, seen);
     if end == 0 {
         return;

@@ -7,19 +7,19 @@ pub mod outcome;
 
 ghost use Rattle.tool_save.specs.Names.{Appended, Beside};
 
-use outcome::{LONG_NAME, SAVED, outcome_of};
+use outcome::{Unsaved, unsaved_of};
 use std::fs::{OpenFile, OpenOptions, Permissions, open, remove_file, rename};
 use std::io;
 use std::io::{ErrorKind, Write};
 use std::os::unix::fs::{OpenOptionsExt, PermissionsExt};
 use std::rt::Files;
-use tool_bytes::{part, rest};
+use tool_bytes::part;
 use tool_stat::path_text;
 
 // The longest path that C can be handed, with the zero behind it.
 pub const PATH_MAX: usize = 4096;
 
-// Puts a text at `at`, and answers where it ends: past the array where it has no room.
+// Puts a text at `at`, and answers where it ends: past the array where it has no room, as `Appended` says it.
 pub fn append(name: &mut [u8; PATH_MAX], at: usize, text: &[u8]) -> usize
     ensures { Appended name.old at text.now result name.new }
 {
@@ -47,19 +47,12 @@ fn held<'a>(name: &'a [u8; PATH_MAX], length: usize) -> &'a [u8] {
 // How many X's stand at the end of the name.
 const DIGITS: usize = 6;
 
-// Puts a digit in place of the X that has so many behind it.
-fn put_digit(name: &mut [u8; PATH_MAX], length: usize, behind: usize, digit: usize) {
-    let at = rest(rest(length, 1), behind);
-    if at < PATH_MAX {
-        name[at] = b'0' + (digit % 10) as u8;
-    }
-}
-
 // Puts a number in place of the X's.
 fn put_number(name: &mut [u8; PATH_MAX], length: usize, n: usize) {
     let mut left = n;
-    for behind in 0..DIGITS {
-        put_digit(name, length, behind, left);
+    let end = length.min(PATH_MAX);
+    for digit in name[..end].iter_mut().rev().take(DIGITS) {
+        *digit = b'0' + (left % 10) as u8;
         left /= 10;
     }
 }
@@ -107,15 +100,10 @@ fn finish(rt: &impl Files, written: io::Result<()>, from: &str, target: &str) ->
     rename(rt, from, target)
 }
 
-// How much of a path names its folder, with the slash behind it; 0 where none of it does.
-pub fn folder_length(path: &[u8]) -> usize {
-    let mut end = 0;
-    for i in 0..path.len() {
-        if path[i] == b'/' {
-            end = i + 1;
-        }
-    }
-    end
+// What of a path names its folder, with the slash behind it.
+pub fn folder<'a>(path: &'a [u8]) -> Option<&'a [u8]> {
+    let slash = path.iter().rposition(|b| *b == b'/')?;
+    Some(part(path, 0, slash.saturating_add(1)))
 }
 
 // Waits until the device has what a folder holds.
@@ -125,12 +113,10 @@ fn sync(rt: &impl Files, folder: &[u8]) -> io::Result<()> {
 
 // Not every folder can be opened, and what was written is written all the same.
 fn sync_folder(rt: &impl Files, target: &[u8]) {
-    let n = folder_length(target);
-    if n == 0 {
-        let _ = sync(rt, b".");
-        return;
-    }
-    let _ = sync(rt, part(target, 0, n));
+    let _ = match folder(target) {
+        Some(folder) => sync(rt, folder),
+        None => sync(rt, b"."),
+    };
 }
 
 fn save_beside(
@@ -153,14 +139,12 @@ fn save_beside(
 }
 
 // Gives the file of that name these bytes and a mode.
-pub fn save(rt: &impl Files, target: &[u8], bytes: &[u8], mode: u32) -> u8 {
+pub fn save(rt: &impl Files, target: &[u8], bytes: &[u8], mode: u32) -> Result<(), Unsaved> {
     let mut name = [0; PATH_MAX];
     let length = beside(&mut name, target);
     if PATH_MAX < length {
-        return LONG_NAME;
+        return Err(Unsaved::LongName);
     }
-    match save_beside(rt, &mut name, length, target, bytes, mode) {
-        Ok(()) => SAVED,
-        Err(e) => outcome_of(e.kind()),
-    }
+    let saved = save_beside(rt, &mut name, length, target, bytes, mode);
+    saved.map_err(|e| unsaved_of(e.kind()))
 }

@@ -1,21 +1,20 @@
 // The file that a link leads to, so that the file is replaced and not the link.
-use crate::{PATH_MAX, append, folder_length, held};
+use crate::{PATH_MAX, append, folder, held};
 use std::io::ErrorKind;
 use std::rt::Files;
 use std::{fs, io};
-use tool_bytes::{byte_at, part};
 use tool_stat::path_text;
 
-// What the link at a path says, so many bytes of it; 0 where there is no link.
+// How many bytes the link at a path says; None where there is no link, or one that says nothing.
 fn read_link<R: Files + AllocGlobal>(
     rt: &R,
     path: &[u8],
     text: &mut [u8; PATH_MAX],
-) -> io::Result<usize> {
+) -> io::Result<Option<usize>> {
     match fs::read_link(rt, path_text(path)?) {
-        Ok(says) => Ok(append(text, 0, says.as_str().as_bytes())),
+        Ok(says) => Ok(Some(append(text, 0, says.as_str().as_bytes())).filter(|&n| 0 < n)),
         Err(e) => match e.kind() {
-            ErrorKind::InvalidInput | ErrorKind::NotFound => Ok(0),
+            ErrorKind::InvalidInput | ErrorKind::NotFound => Ok(None),
             _ => Err(e),
         },
     }
@@ -23,27 +22,29 @@ fn read_link<R: Files + AllocGlobal>(
 
 // The path that a link at a path means: what it says counts from the link's folder.
 fn joined(next: &mut [u8; PATH_MAX], path: &[u8], says: &[u8]) -> usize {
-    if byte_at(says, 0) == b'/' {
+    if let [b'/', ..] = says {
         return append(next, 0, says);
     }
-    let after = append(next, 0, part(path, 0, folder_length(path)));
+    let after = match folder(path) {
+        Some(folder) => append(next, 0, folder),
+        None => 0,
+    };
     append(next, after, says)
 }
 
-// Puts what the link of that name means in its place, and answers how long it is; 0 where it is no link.
+// Puts what the link of that name means in its place, and answers how long it is; None where it is no link.
 fn step<R: Files + AllocGlobal>(
     rt: &R,
     name: &mut [u8; PATH_MAX],
     length: usize,
-) -> io::Result<usize> {
+) -> io::Result<Option<usize>> {
     let mut says = [0; PATH_MAX];
-    let n = read_link(rt, held(name, length), &mut says)?;
-    if n == 0 {
-        return Ok(0);
-    }
+    let Some(n) = read_link(rt, held(name, length), &mut says)? else {
+        return Ok(None);
+    };
     let mut next = [0; PATH_MAX];
     let m = joined(&mut next, held(name, length), held(&says, n));
-    Ok(append(name, 0, held(&next, m)))
+    Ok(Some(append(name, 0, held(&next, m))))
 }
 
 // The path with its last link followed, and that one's, up to 40.
@@ -54,10 +55,9 @@ pub fn followed<R: Files + AllocGlobal>(
 ) -> io::Result<usize> {
     let mut length = append(name, 0, path);
     for _ in 0..40 {
-        let next = step(rt, name, length)?;
-        if next == 0 {
+        let Some(next) = step(rt, name, length)? else {
             break;
-        }
+        };
         length = next;
     }
     Ok(length)

@@ -1,31 +1,40 @@
-// How a saving went, in words.
+// Why a file was not saved, in words.
 use std::io::ErrorKind;
 
-pub const SAVED: u8 = 0;
+#[derive(Clone, Copy)]
+pub enum Unsaved {
+    NoFolder,
+    Forbidden,
+    Full,
+    LongName,
+    Directory,
+    Special,
+    Unwritten,
+}
 
-pub const NO_FOLDER: u8 = 1;
-
-pub const FORBIDDEN: u8 = 2;
-
-pub const FULL: u8 = 3;
-
-pub const LONG_NAME: u8 = 4;
-
-pub const DIRECTORY: u8 = 5;
-
-pub const SPECIAL: u8 = 6;
-
-pub const UNWRITTEN: u8 = 7;
+impl Unsaved {
+    pub fn words(self) -> &'static [u8] {
+        match self {
+            Unsaved::NoFolder => b"no such folder",
+            Unsaved::Forbidden => b"it may not be written",
+            Unsaved::Full => b"the disk is full",
+            Unsaved::LongName => b"its name is too long",
+            Unsaved::Directory => b"a directory; expected a file",
+            Unsaved::Special => b"a pipe or a device; expected a file",
+            Unsaved::Unwritten => b"it cannot be written",
+        }
+    }
+}
 
 // What an error of a call says.
-pub fn outcome_of(kind: ErrorKind) -> u8 {
+pub fn unsaved_of(kind: ErrorKind) -> Unsaved {
     match kind {
-        ErrorKind::NotFound | ErrorKind::NotADirectory => NO_FOLDER,
-        ErrorKind::PermissionDenied | ErrorKind::ReadOnlyFilesystem => FORBIDDEN,
-        ErrorKind::StorageFull => FULL,
-        ErrorKind::InvalidFilename => LONG_NAME,
-        ErrorKind::IsADirectory => DIRECTORY,
-        _ => UNWRITTEN,
+        ErrorKind::NotFound | ErrorKind::NotADirectory => Unsaved::NoFolder,
+        ErrorKind::PermissionDenied | ErrorKind::ReadOnlyFilesystem => Unsaved::Forbidden,
+        ErrorKind::StorageFull => Unsaved::Full,
+        ErrorKind::InvalidFilename => Unsaved::LongName,
+        ErrorKind::IsADirectory => Unsaved::Directory,
+        _ => Unsaved::Unwritten,
     }
 }
 
@@ -36,31 +45,11 @@ const REGULAR: u32 = 0o10;
 
 const FOLDER: u32 = 0o4;
 
-// What the kind of the file says that is to be replaced.
-pub fn outcome_of_kind(mode: u32) -> u8 {
+// Whether a file of this kind may be replaced.
+pub fn replaceable(mode: u32) -> Result<(), Unsaved> {
     match mode / KIND {
-        REGULAR => SAVED,
-        FOLDER => DIRECTORY,
-        _ => SPECIAL,
+        REGULAR => Ok(()),
+        FOLDER => Err(Unsaved::Directory),
+        _ => Err(Unsaved::Special),
     }
-}
-
-const OUTCOMES: [[u8; 35]; 8] = [
-    *b"                                   ",
-    *b"no such folder                     ",
-    *b"it may not be written              ",
-    *b"the disk is full                   ",
-    *b"its name is too long               ",
-    *b"a directory; expected a file       ",
-    *b"a pipe or a device; expected a file",
-    *b"it cannot be written               ",
-];
-
-pub fn outcome_words(outcome: u8) -> [u8; 35] {
-    let rows = OUTCOMES;
-    let n = outcome as usize;
-    if n < 8 {
-        return rows[n];
-    }
-    rows[7]
 }

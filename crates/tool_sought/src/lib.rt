@@ -6,31 +6,21 @@ use layout::answer::Channelled;
 use layout::edition::Edition;
 use layout::record::SourceChannel;
 use tool_asked::body::{complain_no_part, complain_part, complain_unsound};
-use tool_bytes::sum;
 use tool_chord::note::parse_channel;
 use tool_chord::wrong::complain_channel;
-use tool_ends::{Host, begin, end};
-use tool_look::{SOUND, body_of, list, look};
-use tool_out::{Out, SHOWN, number, text, text_as};
+use tool_ends::{Cannot, Host, begin, end};
+use tool_look::list::List;
+use tool_look::{Verdict, look};
+use tool_out::Out;
+use tool_out::shown::How;
 
-// Whether it was found; then the number of the group, the channel's byte, the place of its record in the file, and whether it is of the second edition.
+// The number of the group, the channel's byte, the place of its record in the file, and whether it is of the second edition.
 #[derive(Clone, Copy)]
 pub struct Sought {
-    pub is_found: bool,
     pub group: usize,
     pub channel: u8,
     pub at: usize,
     pub is_second: bool,
-}
-
-fn nothing() -> Sought {
-    Sought {
-        is_found: false,
-        group: 0,
-        channel: 0,
-        at: 0,
-        is_second: false,
-    }
 }
 
 fn is_second_group(body: &[u8], group: usize) -> bool {
@@ -50,25 +40,25 @@ fn has_channel(body: &[u8], group: usize, channel: u8) -> bool {
 
 // The channels that a group has.
 fn put_channels(out: &mut Out, body: &[u8], group: usize) {
-    let mut before: usize = 0;
-    for k in 0..16usize {
-        if has_channel(body, group, (k % 256) as u8) {
-            if 0 < before {
-                text(out, b", ");
+    let mut has_any = false;
+    for channel in 0..16 {
+        if has_channel(body, group, channel) {
+            if has_any {
+                out.text(b", ");
             }
-            number(out, sum(k, 1));
-            before = sum(before, 1);
+            out.number(channel as usize + 1);
+            has_any = true;
         }
     }
-    if before == 0 {
-        text(out, b"none");
+    if !has_any {
+        out.text(b"none");
     }
 }
 
 fn put_there(rt: &impl Host, out: &mut Out, name: &[u8], body: &[u8], group: usize) {
-    text(out, b"; the channels of ");
-    text_as(out, SHOWN, name);
-    text(out, b" are ");
+    out.text(b"; the channels of ");
+    out.text_as(How::Shown, name);
+    out.text(b" are ");
     put_channels(out, body, group);
     end(rt, out);
 }
@@ -79,11 +69,11 @@ fn complain_no_channel(
     name: &[u8],
     body: &[u8],
     group: usize,
-) -> Sought {
+) -> Cannot {
     let mut out = begin(rt, command);
-    text(&mut out, b"no CHANNEL");
+    out.text(b"no CHANNEL");
     put_there(rt, &mut out, name, body, group);
-    nothing()
+    Cannot
 }
 
 fn complain_absent(
@@ -93,22 +83,21 @@ fn complain_absent(
     body: &[u8],
     group: usize,
     channel: u8,
-) -> Sought {
+) -> Cannot {
     let mut out = begin(rt, command);
-    text(&mut out, b"no channel ");
-    number(&mut out, sum(channel as usize, 1));
-    text(&mut out, b" in ");
-    text_as(&mut out, SHOWN, name);
+    out.text(b"no channel ");
+    out.number((channel as usize).saturating_add(1));
+    out.text(b" in ");
+    out.text_as(How::Shown, name);
     put_there(rt, &mut out, name, body, group);
-    nothing()
+    Cannot
 }
 
 fn found_at(body: &[u8], start: usize, group: usize, channel: u8, found: Channelled) -> Sought {
     Sought {
-        is_found: true,
-        group: group,
-        channel: channel,
-        at: sum(start, found.at),
+        group,
+        channel,
+        at: start.saturating_add(found.at),
         is_second: is_second_group(body, group),
     }
 }
@@ -121,20 +110,18 @@ fn seek_channel(
     start: usize,
     group: usize,
     given: &[u8],
-) -> Sought {
-    if given.len() == 0 {
-        return complain_no_channel(rt, command, name, body, group);
+) -> Result<Sought, Cannot> {
+    if given.is_empty() {
+        return Err(complain_no_channel(rt, command, name, body, group));
     }
-    let channel = parse_channel(given);
-    if !channel.is_fine {
-        complain_channel(rt, command, given);
-        return nothing();
-    }
-    let found = find_channel(body, group, SourceChannel(channel.channel));
+    let Some(channel) = parse_channel(given) else {
+        return Err(complain_channel(rt, command, given));
+    };
+    let found = find_channel(body, group, SourceChannel(channel));
     if found.number != 0 {
-        return complain_absent(rt, command, name, body, group, channel.channel);
+        return Err(complain_absent(rt, command, name, body, group, channel));
     }
-    found_at(body, start, group, channel.channel, found)
+    Ok(found_at(body, start, group, channel, found))
 }
 
 fn seek_part(
@@ -146,15 +133,13 @@ fn seek_part(
     groups: usize,
     name: &[u8],
     given: &[u8],
-) -> Sought {
-    if name.len() == 0 {
-        complain_no_part(rt, command, path, body, groups);
-        return nothing();
+) -> Result<Sought, Cannot> {
+    if name.is_empty() {
+        return Err(complain_no_part(rt, command, path, body, groups));
     }
     let named = find_part(body, name);
     if named.number != 0 {
-        complain_part(rt, command, name, path, body, groups);
-        return nothing();
+        return Err(complain_part(rt, command, name, path, body, groups));
     }
     seek_channel(rt, command, name, body, start, named.group, given)
 }
@@ -167,29 +152,28 @@ pub fn seek(
     file: &[u8],
     name: &[u8],
     given: &[u8],
-) -> Sought {
-    let mut entries = list::room();
+) -> Result<Sought, Cannot> {
+    let mut entries = List::new();
     let seen = look(file, &mut entries);
-    if seen.verdict != SOUND {
-        complain_unsound(rt, command, path, file, &entries, seen);
-        return nothing();
+    if seen.verdict != Verdict::Sound {
+        return Err(complain_unsound(rt, command, path, file, &entries, seen));
     }
-    let body = body_of(file, seen.tag, seen.length);
+    let body = seen.body(file);
     seek_part(
         rt,
         command,
         path,
         body,
-        sum(seen.tag, 8),
-        seen.count,
+        seen.body_place(),
+        seen.count(),
         name,
         given,
     )
 }
 
 // What is wrong with a file that a call refused.
-pub fn complain_refused(rt: &impl Host, command: &[u8], path: &[u8], file: &[u8]) -> u8 {
-    let mut entries = list::room();
+pub fn complain_refused(rt: &impl Host, command: &[u8], path: &[u8], file: &[u8]) -> Cannot {
+    let mut entries = List::new();
     let seen = look(file, &mut entries);
     complain_unsound(rt, command, path, file, &entries, seen)
 }

@@ -1,7 +1,8 @@
 // Where a text is cut into lines of a width: after a comma where that will do, so that a name stays in one piece, else at a space, and else where the line ends.
 use crate::WIDE;
-use tool_bytes::{byte_at, part, rest, sum};
-use tool_out::{Out, end_line, fill, held, text, trimmed_length};
+use tool_bytes::{byte_at, part};
+use tool_out::Out;
+use tool_out::words::trimmed;
 
 // A line may end at place i where a space stands there, behind a comma where that is asked; else where it could end before.
 fn better_end(s: &[u8], from: usize, i: usize, is_comma: bool, before: usize) -> usize {
@@ -12,7 +13,7 @@ fn better_end(s: &[u8], from: usize, i: usize, is_comma: bool, before: usize) ->
         return before;
     }
     if is_comma {
-        if byte_at(s, rest(i, 1)) != b',' {
+        if byte_at(s, i.saturating_sub(1)) != b',' {
             return before;
         }
     }
@@ -30,10 +31,10 @@ fn last_end(s: &[u8], from: usize, to: usize, is_comma: bool) -> usize {
 
 // Where the line that begins at `from` ends, of a text that ends at `end`.
 pub fn line_end(s: &[u8], from: usize, end: usize, width: usize, at_commas: bool) -> usize {
-    if rest(end, from) <= width {
+    if end.saturating_sub(from) <= width {
         return end;
     }
-    let last = sum(from, width);
+    let last = from.saturating_add(width);
     if at_commas {
         let comma = last_end(s, from, last, true);
         if from < comma {
@@ -53,32 +54,30 @@ pub fn next_line(s: &[u8], ended: usize, end: usize) -> usize {
         return end;
     }
     if byte_at(s, ended) == b' ' {
-        return sum(ended, 1);
+        return ended.saturating_add(1);
     }
     ended
 }
 
 // A line without the spaces at its end.
 pub fn put_line(out: &mut Out, s: &[u8], from: usize, end: usize) {
-    let line = part(s, from, rest(end, from));
-    let n = trimmed_length(line);
-    text(out, part(line, 0, n));
+    out.text(trimmed(part(s, from, end.saturating_sub(from))));
 }
 
 // What a writer in memory holds, in lines: the first goes on where the writer stands, the others begin behind an indent; no line is wider than what the indent leaves.
 pub fn put_wrapped(out: &mut Out, words: &Out, indent: usize, at_commas: bool) {
-    let s = held(words);
+    let s = words.held();
     let end = s.len();
     let mut from: usize = 0;
     for _ in 0..end {
-        let ended = line_end(s, from, end, rest(WIDE, indent), at_commas);
+        let ended = line_end(s, from, end, WIDE.saturating_sub(indent), at_commas);
         put_line(out, s, from, ended);
-        end_line(out);
+        out.end_line();
         from = next_line(s, ended, end);
         if end <= from {
             return;
         }
-        fill(out, b' ', indent);
+        out.fill(b' ', indent);
     }
-    end_line(out);
+    out.end_line();
 }

@@ -4,8 +4,7 @@
 pub mod cut;
 pub mod row;
 
-use tool_bytes::{rest, sum};
-use tool_out::{Out, byte, held};
+use tool_out::Out;
 
 // How wide a text for people is.
 pub const WIDE: usize = 80;
@@ -14,7 +13,7 @@ pub const COLUMNS: usize = 8;
 
 // Between two cells of a row: no shown text has a zero byte.
 pub fn next_cell(row: &mut Out) {
-    byte(row, 0);
+    row.byte(0);
 }
 
 // A cell of column k was so wide.
@@ -28,15 +27,15 @@ fn widen(widths: &mut [usize; COLUMNS], k: usize, n: usize) {
 
 // Makes each column as wide as the row's cell, where it is narrower.
 pub fn measure(widths: &mut [usize; COLUMNS], row: &Out) {
-    let s = held(row);
+    let s = row.held();
     let mut k: usize = 0;
     let mut n: usize = 0;
     for i in 0..s.len() {
         if s[i] == 0 {
-            k = sum(k, 1);
+            k = k.saturating_add(1);
             n = 0;
         } else {
-            n = sum(n, 1);
+            n = n.saturating_add(1);
         }
         widen(widths, k, n);
     }
@@ -62,14 +61,14 @@ pub fn width_of(widths: &[usize; COLUMNS], k: usize) -> usize {
 pub fn column_place(widths: &[usize; COLUMNS], indent: usize, k: usize) -> usize {
     let mut at = indent;
     for i in 0..k {
-        at = sum(sum(at, 2), width_of(widths, i));
+        at = at.saturating_add(2).saturating_add(width_of(widths, i));
     }
     at
 }
 
 // What is left of the width for column k, and at least so much.
 pub fn limit_rest(widths: &mut [usize; COLUMNS], indent: usize, k: usize, fewest: usize) {
-    let left = rest(WIDE, column_place(widths, indent, k));
+    let left = WIDE.saturating_sub(column_place(widths, indent, k));
     if left < fewest {
         limit(widths, k, fewest);
         return;

@@ -1,8 +1,9 @@
 // A row printed: each cell in its column, longer ones cut into lines inside it, and no spaces at a line's end.
 use crate::cut::{line_end, next_line};
 use crate::{COLUMNS, column_place, width_of};
-use tool_bytes::{part, rest, sum};
-use tool_out::{Out, end_line, held, pad, text, trimmed_length};
+use tool_bytes::part;
+use tool_out::Out;
+use tool_out::words::trimmed;
 
 fn set(places: &mut [usize; COLUMNS], k: usize, at: usize) {
     if k < COLUMNS {
@@ -15,10 +16,10 @@ fn split(s: &[u8], from: &mut [usize; COLUMNS], ends: &mut [usize; COLUMNS]) {
     let mut k: usize = 0;
     for i in 0..s.len() {
         if s[i] == 0 {
-            k = sum(k, 1);
-            set(from, k, sum(i, 1));
+            k = k.saturating_add(1);
+            set(from, k, i.saturating_add(1));
         }
-        set(ends, k, sum(i, 1));
+        set(ends, k, i.saturating_add(1));
     }
 }
 
@@ -41,17 +42,17 @@ fn put_piece(
     width: usize,
     is_right: bool,
 ) -> usize {
-    let n = trimmed_length(piece);
-    if n == 0 {
+    let words = trimmed(piece);
+    if words.is_empty() {
         return x;
     }
     let mut begin = place;
     if is_right {
-        begin = sum(place, rest(width, n));
+        begin = place.saturating_add(width.saturating_sub(words.len()));
     }
-    pad(out, x, begin);
-    text(out, part(piece, 0, n));
-    sum(begin, n)
+    out.pad(x, begin);
+    out.text(words);
+    begin.saturating_add(words.len())
 }
 
 // The next line of the cell that has from..end of a text left; where the line then stands. What is left of the cell begins behind it.
@@ -71,7 +72,14 @@ fn put_cell(
     }
     let ended = line_end(s, at, end, width, true);
     *from = next_line(s, ended, end);
-    put_piece(out, part(s, at, rest(ended, at)), x, place, width, is_right)
+    put_piece(
+        out,
+        part(s, at, ended.saturating_sub(at)),
+        x,
+        place,
+        width,
+        is_right,
+    )
 }
 
 // A line of the row.
@@ -100,7 +108,7 @@ fn put_line(
         );
         from[k] = at;
     }
-    end_line(out);
+    out.end_line();
 }
 
 // The row that a writer in memory holds.
@@ -111,7 +119,7 @@ pub fn put_row(
     indent: usize,
     rights: [bool; COLUMNS],
 ) {
-    let s = held(row);
+    let s = row.held();
     let mut from = [0usize; COLUMNS];
     let mut ends = [0usize; COLUMNS];
     split(s, &mut from, &mut ends);

@@ -7,61 +7,62 @@ use casm::checking::check_files;
 use layout::answer::{Checked, Which};
 use layout::record::SourceChannel;
 use site::put_site;
-use tool_asked::is_read;
-use tool_bytes::{byte_at, rest, sum};
-use tool_ends::{CANNOT, DONE, Host, NO, begin, complain, end, quoted};
+use tool_asked::read;
+use tool_bytes::byte_at;
+use tool_ends::{Argument, Cannot, Host, Status, begin, complain, end, quoted};
 use tool_files::{FILE, contents};
-use tool_out::{Out, SHOWN, count, end_line, number, place, text, text_as, upper_pair};
+use tool_out::Out;
+use tool_out::shown::How;
 use tool_sought::{complain_refused, seek};
 
 // The channel and the part.
 fn put_channel(out: &mut Out, channel: u8, name: &[u8]) {
-    text(out, b"ch ");
-    number(out, sum(channel as usize, 1));
-    text(out, b" of ");
-    text_as(out, SHOWN, name);
+    out.text(b"ch ");
+    out.number((channel as usize).saturating_add(1));
+    out.text(b" of ");
+    out.text_as(How::Shown, name);
 }
 
-fn put_yes(out: &mut Out, is_same: bool, channel: u8, name: &[u8]) -> u8 {
+fn put_yes(out: &mut Out, is_same: bool, channel: u8, name: &[u8]) -> Status {
     if is_same {
-        text(out, b"yes: the files are the same\n");
-        return DONE;
+        out.text(b"yes: the files are the same\n");
+        return Status::Done;
     }
-    text(out, b"yes: only ");
+    out.text(b"yes: only ");
     put_channel(out, channel, name);
-    text(out, b" differs\n");
-    DONE
+    out.text(b" differs\n");
+    Status::Done
 }
 
 // That a file ends at a place, and how much the other one has behind it.
 fn put_ended(out: &mut Out, path: &[u8], longer: &[u8], at: usize) {
-    text(out, b"  ");
-    text_as(out, SHOWN, path);
-    text(out, b" ends at ");
-    place(out, at);
-    text(out, b", and the other file has ");
-    count(out, rest(longer.len(), at), b"byte", b"bytes");
-    text(out, b" more");
-    end_line(out);
+    out.text(b"  ");
+    out.text_as(How::Shown, path);
+    out.text(b" ends at ");
+    out.place(at);
+    out.text(b", and the other file has ");
+    out.count(longer.len().saturating_sub(at), b"byte", b"bytes");
+    out.text(b" more");
+    out.end_line();
 }
 
 fn put_byte(out: &mut Out, value: u8) {
-    upper_pair(out, value);
-    text(out, b"H");
+    out.upper_pair(value);
+    out.text(b"H");
 }
 
 // The first byte that differs, and what it is of.
 fn put_first(out: &mut Out, before: &[u8], after: &[u8], at: usize) {
-    text(out, b"  first at ");
-    place(out, at);
-    text(out, b": ");
+    out.text(b"  first at ");
+    out.place(at);
+    out.text(b": ");
     put_byte(out, byte_at(before, at));
-    text(out, b" -> ");
+    out.text(b" -> ");
     put_byte(out, byte_at(after, at));
-    end_line(out);
-    text(out, b"  ");
+    out.end_line();
+    out.text(b"  ");
     put_site(out, before, at);
-    end_line(out);
+    out.end_line();
 }
 
 fn put_no(out: &mut Out, path: &[u8], before: &[u8], other: &[u8], after: &[u8], at: usize) {
@@ -94,7 +95,7 @@ fn complain_checked(
     other: &[u8],
     after: &[u8],
     checked: Checked,
-) -> u8 {
+) -> Cannot {
     let which = checked.which;
     if is_after(which) {
         return complain_refused(rt, b"verify", other, after);
@@ -112,24 +113,21 @@ fn verify_files(
     after: &[u8],
     name: &[u8],
     given: &[u8],
-) -> u8 {
-    let sought = seek(rt, b"verify", path, before, name, given);
-    if !sought.is_found {
-        return CANNOT;
-    }
+) -> Result<Status, Cannot> {
+    let sought = seek(rt, b"verify", path, before, name, given)?;
     let channel = sought.channel;
     let checked = check_files(before, after, sought.group, SourceChannel(channel));
     if checked.number != 0 {
-        return complain_checked(rt, path, before, other, after, checked);
+        return Err(complain_checked(rt, path, before, other, after, checked));
     }
     if checked.yes {
-        return put_yes(out, check::same(before, after), channel, name);
+        return Ok(put_yes(out, before == after, channel, name));
     }
-    text(out, b"no: the files differ outside ");
+    out.text(b"no: the files differ outside ");
     put_channel(out, channel, name);
-    end_line(out);
+    out.end_line();
     put_no(out, path, before, other, after, checked.unlike);
-    NO
+    Ok(Status::No)
 }
 
 fn verify_read(
@@ -141,12 +139,9 @@ fn verify_read(
     other: &[u8],
     name: &[u8],
     given: &[u8],
-) -> u8 {
+) -> Result<Status, Cannot> {
     let mut bytes = tool_files::room();
-    let mut more: usize = 0;
-    if !is_read(rt, other, &mut bytes, &mut more) {
-        return CANNOT;
-    }
+    let more = read(rt, other, &mut bytes)?;
     verify_files(
         rt,
         out,
@@ -166,49 +161,45 @@ fn verify_paths(
     other: &[u8],
     name: &[u8],
     given: &[u8],
-) -> u8 {
+) -> Result<Status, Cannot> {
     let mut bytes = tool_files::room();
-    let mut length: usize = 0;
-    if !is_read(rt, path, &mut bytes, &mut length) {
-        return CANNOT;
-    }
+    let length = read(rt, path, &mut bytes)?;
     verify_read(rt, out, path, &bytes, length, other, name, given)
 }
 
 // An argument too many.
-fn complain_more(rt: &impl Host, i: usize) -> u8 {
-    let mut given = tool_ends::buffer();
-    let n = tool_ends::arg(rt, i, &mut given);
+fn complain_more(rt: &impl Host, i: usize) -> Cannot {
+    let given = Argument::at(rt, i);
     let mut out = begin(rt, b"verify");
-    quoted(&mut out, &given[..n]);
-    text(
-        &mut out,
-        b" is too much; expected casm verify BEFORE AFTER PART CHANNEL",
-    );
+    quoted(&mut out, given.text());
+    out.text(b" is too much; expected casm verify BEFORE AFTER PART CHANNEL");
     end(rt, &mut out);
-    CANNOT
+    Cannot
 }
 
 // `casm verify BEFORE AFTER PART CHANNEL`, the arguments from number `first` on.
-pub fn verify(rt: &impl Host, out: &mut Out, first: usize) -> u8 {
-    let given = rest(tool_ends::arg_count(rt), first);
+pub fn verify(rt: &impl Host, out: &mut Out, first: usize) -> Result<Status, Cannot> {
+    let given = tool_ends::arg_count(rt).saturating_sub(first);
     if given < 2 {
-        return complain(
+        return Err(complain(
             rt,
             b"verify",
             b"no BEFORE and AFTER; expected casm verify BEFORE AFTER PART CHANNEL",
-        );
+        ));
     }
     if 4 < given {
-        return complain_more(rt, sum(first, 4));
+        return Err(complain_more(rt, first.saturating_add(4)));
     }
-    let mut path = tool_ends::buffer();
-    let mut other = tool_ends::buffer();
-    let mut name = tool_ends::buffer();
-    let mut channel = tool_ends::buffer();
-    let n = tool_ends::arg(rt, first, &mut path);
-    let m = tool_ends::arg(rt, sum(first, 1), &mut other);
-    let k = tool_ends::arg(rt, sum(first, 2), &mut name);
-    let j = tool_ends::arg(rt, sum(first, 3), &mut channel);
-    verify_paths(rt, out, &path[..n], &other[..m], &name[..k], &channel[..j])
+    let path = Argument::at(rt, first);
+    let other = Argument::at(rt, first.saturating_add(1));
+    let name = Argument::at(rt, first.saturating_add(2));
+    let channel = Argument::at(rt, first.saturating_add(3));
+    verify_paths(
+        rt,
+        out,
+        path.text(),
+        other.text(),
+        name.text(),
+        channel.text(),
+    )
 }

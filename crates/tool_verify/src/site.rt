@@ -1,8 +1,9 @@
 // What stands at a place of a file, in words.
 use casm::read::{find_casm, find_place, group_text, section_body};
 use layout::answer::Sited;
-use tool_bytes::{byte_at, is_tag, rest, sum};
-use tool_out::{Out, SHOWN, number, place, text};
+use tool_bytes::{byte_at, is_tag};
+use tool_out::Out;
+use tool_out::shown::How;
 use tool_parts::{next_section, put_parts, put_tag};
 use tool_words::fields::put_field;
 
@@ -22,53 +23,53 @@ fn section_with(file: &[u8], at: usize) -> usize {
 // What of a header a byte is of, k bytes behind its start.
 fn put_header(out: &mut Out, k: usize) {
     if k < 4 {
-        text(out, b"the tag of ");
+        out.text(b"the tag of ");
         return;
     }
-    text(out, b"the length of ");
+    out.text(b"the length of ");
 }
 
 fn put_section(out: &mut Out, file: &[u8], tag: usize) {
-    text(out, b"the section ");
-    put_tag(out, SHOWN, file, tag);
-    text(out, b" at ");
-    place(out, tag);
+    out.text(b"the section ");
+    put_tag(out, How::Shown, file, tag);
+    out.text(b" at ");
+    out.place(tag);
 }
 
 // The group, as people count it, and its parts.
 fn put_group(out: &mut Out, body: &[u8], group: usize) {
-    text(out, b"group ");
-    number(out, sum(group, 1));
-    text(out, b" (");
-    put_parts(out, SHOWN, group_text(body, group));
-    text(out, b")");
+    out.text(b"group ");
+    out.number(group.saturating_add(1));
+    out.text(b" (");
+    put_parts(out, How::Shown, group_text(body, group));
+    out.text(b")");
 }
 
 // A chunk of a channel.
 fn put_chunk(out: &mut Out, body: &[u8], chunk: usize) {
-    text(out, b"the ");
-    put_tag(out, SHOWN, body, chunk);
+    out.text(b"the ");
+    put_tag(out, How::Shown, body, chunk);
     if is_tag(body, chunk, b"Sdec") {
         return;
     }
-    text(out, b" of ch ");
-    number(out, sum(byte_at(body, sum(chunk, 8)) as usize, 1));
+    out.text(b" of ch ");
+    out.number((byte_at(body, chunk.saturating_add(8)) as usize).saturating_add(1));
 }
 
 // The field that byte k of a chunk is of.
 fn put_chunk_field(out: &mut Out, body: &[u8], chunk: usize, k: usize) {
     if is_tag(body, chunk, b"Sdec") {
-        text(out, b"the part names");
+        out.text(b"the part names");
         return;
     }
     if is_tag(body, chunk, b"Cntt") && 0 < k {
-        text(out, b"second table");
+        out.text(b"second table");
         return;
     }
     put_field(out, is_tag(body, chunk, b"Ctb2"), k);
-    text(out, b" (byte ");
-    number(out, k);
-    text(out, b")");
+    out.text(b" (byte ");
+    out.number(k);
+    out.text(b")");
 }
 
 // A byte of a chunk, k bytes behind its tag's start.
@@ -77,18 +78,18 @@ fn put_in_chunk(out: &mut Out, body: &[u8], sited: Sited, k: usize) {
         put_header(out, k);
         put_chunk(out, body, sited.chunk);
     } else {
-        put_chunk_field(out, body, sited.chunk, rest(k, 8));
-        text(out, b" in ");
+        put_chunk_field(out, body, sited.chunk, k.saturating_sub(8));
+        out.text(b" in ");
         put_chunk(out, body, sited.chunk);
     }
-    text(out, b", ");
+    out.text(b", ");
     put_group(out, body, sited.group);
 }
 
 // What stands at a place of a body.
 fn put_in_body(out: &mut Out, body: &[u8], at: usize) {
     let sited = find_place(body, at);
-    let k = rest(at, sited.chunk);
+    let k = at.saturating_sub(sited.chunk);
     if sited.child == 0 {
         put_header(out, k);
         put_group(out, body, sited.group);
@@ -100,7 +101,7 @@ fn put_in_body(out: &mut Out, body: &[u8], at: usize) {
 // What stands at a place of a sound file: a section, and in CASM also the group, the chunk and the field.
 pub fn put_site(out: &mut Out, file: &[u8], at: usize) {
     let tag = section_with(file, at);
-    let k = rest(at, tag);
+    let k = at.saturating_sub(tag);
     if k < 8 {
         put_header(out, k);
         put_section(out, file, tag);
@@ -108,13 +109,17 @@ pub fn put_site(out: &mut Out, file: &[u8], at: usize) {
     }
     let found = find_casm(file);
     if found.tag != tag {
-        text(out, b"byte ");
-        number(out, rest(k, 8));
-        text(out, b" of ");
+        out.text(b"byte ");
+        out.number(k.saturating_sub(8));
+        out.text(b" of ");
         put_section(out, file, tag);
         return;
     }
-    put_in_body(out, section_body(file, tag, found.length), rest(k, 8));
-    text(out, b" of ");
+    put_in_body(
+        out,
+        section_body(file, tag, found.length),
+        k.saturating_sub(8),
+    );
+    out.text(b" of ");
     put_section(out, file, tag);
 }

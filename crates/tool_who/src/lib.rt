@@ -3,9 +3,8 @@
 
 use casm::questions::who_plays;
 use layout::record::SourceChannel;
-use tool_bytes::least;
-use tool_out::{Out, text};
-use tool_rows::row::{ROWS, byte_of, chord_mask, root_mask};
+use tool_out::Out;
+use tool_rows::row::Row;
 use tool_words::masks::{AUTO_START, is_held};
 
 // A mark for each source channel.
@@ -14,24 +13,24 @@ pub const MARKS: usize = 16;
 // A count for each chord: twelve roots a type.
 pub const CHORDS: usize = 408;
 
-pub fn no_marks() -> [u8; MARKS] {
-    [0; MARKS]
+pub fn no_marks() -> [bool; MARKS] {
+    [false; MARKS]
 }
 
 pub fn no_counts() -> [usize; CHORDS] {
     [0; CHORDS]
 }
 
-fn mark(marks: &mut [u8; MARKS], channel: SourceChannel) {
+fn mark(marks: &mut [bool; MARKS], channel: SourceChannel) {
     let n = channel.0 as usize;
     if n < MARKS {
-        marks[n] = 1;
+        marks[n] = true;
     }
 }
 
 // Marks the channels of a part that play under a chord. How many they are.
 pub fn mark_playing(
-    marks: &mut [u8; MARKS],
+    marks: &mut [bool; MARKS],
     body: &[u8],
     name: &[u8],
     root: u8,
@@ -39,17 +38,20 @@ pub fn mark_playing(
 ) -> usize {
     let played = who_plays(body, name, root, kind);
     let channels = played.channels;
-    let count = least(played.count, 16);
-    for i in 0..16 {
-        if i < count {
-            mark(marks, channels[i]);
-        }
+    let count = played.count.min(16);
+    for channel in channels.iter().take(count) {
+        mark(marks, *channel);
     }
     count
 }
 
 // Counts who plays under each chord, and marks who plays under one of them.
-pub fn count_all(counts: &mut [usize; CHORDS], marks: &mut [u8; MARKS], body: &[u8], name: &[u8]) {
+pub fn count_all(
+    counts: &mut [usize; CHORDS],
+    marks: &mut [bool; MARKS],
+    body: &[u8],
+    name: &[u8],
+) {
     for k in 0..408usize {
         let n = mark_playing(marks, body, name, (k % 12) as u8, (k / 12 % 34) as u8);
         counts[k] = n;
@@ -67,30 +69,27 @@ pub fn count_at(counts: &[usize; CHORDS], root: usize, kind: usize) -> usize {
     counts[12 * kind + root]
 }
 
-// Whether the channel of row k is marked.
-pub fn is_marked(marks: &[u8; MARKS], rows: &[u8; ROWS], k: usize) -> bool {
-    let n = byte_of(rows, k, 0) as usize;
-    if n < MARKS {
-        return marks[n] != 0;
-    }
-    false
+// Whether the channel of a row is marked.
+pub fn is_marked(marks: &[bool; MARKS], row: &Row) -> bool {
+    let n = row.byte(0) as usize;
+    n < MARKS && marks[n]
 }
 
-pub fn is_auto(rows: &[u8; ROWS], k: usize) -> bool {
-    is_held(chord_mask(rows, k), AUTO_START)
+pub fn is_auto(row: &Row) -> bool {
+    is_held(row.chord_mask(), AUTO_START)
 }
 
-// Which of its masks keeps the channel of row k from playing under a chord.
-pub fn put_why(out: &mut Out, rows: &[u8; ROWS], k: usize, root: u8, kind: u8) {
-    text(out, b"by its ");
-    let is_root = is_held(root_mask(rows, k), root as usize);
-    let is_kind = is_held(chord_mask(rows, k), kind as usize);
+// Which of its masks keeps the channel of a row from playing under a chord.
+pub fn put_why(out: &mut Out, row: &Row, root: u8, kind: u8) {
+    out.text(b"by its ");
+    let is_root = is_held(row.root_mask(), root as usize);
+    let is_kind = is_held(row.chord_mask(), kind as usize);
     if is_root {
-        text(out, b"chord type");
+        out.text(b"chord type");
         return;
     }
-    text(out, b"root");
+    out.text(b"root");
     if !is_kind {
-        text(out, b" and chord type");
+        out.text(b" and chord type");
     }
 }

@@ -1,7 +1,6 @@
 // A mask of chord roots or of chord types, in words: `all`, `none`, `all but ..` where fewer are left out than held, else the list.
 use crate::{put_chord, put_root};
-use tool_bytes::{rest, sum};
-use tool_out::{Out, text};
+use tool_out::Out;
 
 // How many roots and types a mask has bits for, and the bit for starting by itself.
 pub const ROOTS: usize = 12;
@@ -23,7 +22,7 @@ pub fn held_of(mask: usize, count: usize) -> usize {
     let mut n: usize = 0;
     for k in 0..count {
         if is_held(mask, k) {
-            n = sum(n, 1);
+            n = n.saturating_add(1);
         }
     }
     n
@@ -41,7 +40,7 @@ fn put_name(out: &mut Out, count: usize, k: usize) {
 // A name behind those before it.
 fn put_next(out: &mut Out, count: usize, k: usize, before: usize) {
     if 0 < before {
-        text(out, b", ");
+        out.text(b", ");
     }
     put_name(out, count, k);
 }
@@ -52,7 +51,7 @@ fn put_those(out: &mut Out, mask: usize, count: usize, is_those_held: bool) {
     for k in 0..count {
         if is_held(mask, k) == is_those_held {
             put_next(out, count, k, before);
-            before = sum(before, 1);
+            before = before.saturating_add(1);
         }
     }
 }
@@ -60,17 +59,17 @@ fn put_those(out: &mut Out, mask: usize, count: usize, is_those_held: bool) {
 // The words for a mask of so many bits.
 pub fn put_mask(out: &mut Out, mask: usize, count: usize) {
     let held = held_of(mask, count);
-    let left_out = rest(count, held);
+    let left_out = count.saturating_sub(held);
     if left_out == 0 {
-        text(out, b"all");
+        out.text(b"all");
         return;
     }
     if held == 0 {
-        text(out, b"none");
+        out.text(b"none");
         return;
     }
     if left_out < held {
-        text(out, b"all but ");
+        out.text(b"all but ");
         put_those(out, mask, count, false);
         return;
     }
@@ -81,6 +80,6 @@ pub fn put_mask(out: &mut Out, mask: usize, count: usize) {
 pub fn put_chords(out: &mut Out, mask: usize) {
     put_mask(out, mask, TYPES);
     if is_held(mask, AUTO_START) {
-        text(out, b"; auto start");
+        out.text(b"; auto start");
     }
 }

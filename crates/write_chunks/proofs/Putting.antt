@@ -10,7 +10,7 @@ use borrow.Rule.Slice.PartMut.{mid_of, put_mid}
 use Rattle.layout.specs.declared.edition.Edition.{Edition}
 use Rattle.layout.specs.declared.edition.Edition.TheVariants.{First, Second}
 use Rattle.layout.specs.declared.record.Record.{Record}
-use Rattle.layout.specs.declared.record.SecondTable.TheVariants.{Value}
+use Rattle.layout.specs.Records.{Value}
 use Rattle.layout.specs.Bytes.{four, chunk}
 use Rattle.layout.specs.Edit.{replaced}
 use Rattle.layout.specs.Editions.{size}

@@ -7,7 +7,7 @@ use lib.ListN.{length, get_or, set, take, drop, take-append-drop}
 use lib.Seq.{drop-cons, drop_at, set-append_seam, length-take-le}
 use borrow.Rule.Slice.PartMut.{mid_of, put_mid}
 use Rattle.layout.specs.declared.record.Record.{Record}
-use Rattle.layout.specs.declared.record.SecondTable.TheVariants.{Value}
+use Rattle.layout.specs.Records.{Value}
 use Rattle.layout.specs.Bytes.{four, chunk, CSEG, Sdec}
 use Rattle.layout.specs.declared.edition.Edition.{Edition}
 use Rattle.layout.specs.declared.edition.Edition.TheVariants.{First, Second}

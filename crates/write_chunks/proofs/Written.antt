@@ -7,7 +7,7 @@ use native.Mathlib.Omega.{arith}
 use native.Mathlib.Decide.{dec_lt}
 use lib.ListN.{length, get_or, take, drop, length-append}
 use lib.Seq.{take-take, take-append-le, drop_at, length-take-le}
-use borrow.Author.Tests.{ne_eqb}
+use Rattle.std.specs.Prelude.{Ok, Err}
 use Rattle.layout.specs.declared.edition.Edition.{Edition}
 use Rattle.layout.specs.declared.record.Record.{Record}
 use Rattle.layout.specs.Bytes.{CSEG, Sdec, four, chunk}
@@ -16,33 +16,27 @@ use Rattle.layout.specs.Edit.{replaced}
 use Rattle.layout.specs.Editions.{size}
 use Rattle.layout.specs.Group.{ctab_place}
 use Rattle.layout.specs.Records.{blank, edition_of}
-use Rattle.layout.specs.Lists.{rows}
 use Rattle.layout.specs.Write.{ctab_bytes, cntts_bytes, payload_bytes, group_bytes, first_edition, group_from}
 use Rattle.layout.specs.Promises.{GroupWritten}
 use Rattle.layout.proofs.Replaced.{replaced_start, replaced_length, replaced_twice}
 use Rattle.write_plan.specs.declared.Plan.{Plan}
 use Rattle.write_plan.specs.Chunks.{cntts_down, framed}
-use Rattle.write_plan.specs.Checking.{OneEdition, no_plan, plan_of, measured_by, start_place, start_bytes}
+use Rattle.write_plan.specs.Checking.{Plans, OneEdition, plan_of, measured_by, start_place, start_bytes}
 use Rattle.write_plan.proofs.Down.{cntts_length}
 use Rattle.write_chunks.proofs.Putting.{place_within}
 use Rattle.write_plan.proofs.Planning.{ctabs_length, group_length, editions_take, NotPlanned, Planned, plan_says}
 
 -- what is so of every plan: each step has the room that it asks for
 pub record PlanFits (text : List ℕ) (rs : List Record) (room : ℕ) (p : Plan) : Type 0 where
-  pub start : p.number ≡ 0 → (16 + length text ≤ p.length) × (p.length ≤ room)
+  pub start : (16 + length text ≤ p.length) × (p.length ≤ room)
   pub within : p.records ≤ length rs
   pub editions : OneEdition p.edition rs p.records
-  pub chunks : ctab_place p.edition (start_place text p) p.records + 10 * p.seconds ≤ room
+  pub chunks : ctab_place p.edition (start_place text (Ok p)) p.records + 10 * p.seconds ≤ room
   pub few : p.seconds ≤ 16
-
-module _ (text : List ℕ) (rs : List Record) (room number place : ℕ) (z : number ≡ 0 → ⊥) where
-  none_fits : PlanFits text rs room (no_plan number place)
-  unfolding no_plan start_place
-  none_fits = record { start = λ e. absurd (z e); within = omega arith; editions = λ i l. absurd (omega arith); chunks = rw (ne_eqb number 0 z) (omega arith); few = omega arith }
 
 abbrev accepting : List ℕ → List Record → ℕ → Edition → ℕ → List ℕ → Plan
 accepting text rs count edition seconds cntts =
-    record { number = 0; place = 0; records = count; edition = edition; length = length (group_bytes (group_from text rs count)); seconds = seconds; cntts = cntts }
+    record { records = count; edition = edition; length = length (group_bytes (group_from text rs count)); seconds = seconds; cntts = cntts }
 
 module _ (text : List ℕ) (rs : List Record) (count : ℕ) (h : count ≤ length rs) (e : Edition) (same : OneEdition e rs count) (seconds : ℕ) (cntts : List ℕ) (down : cntts_down cntts seconds ≡ cntts_bytes (take count rs)) where
   ctabs_long : length (flat_map ctab_bytes (take count rs)) ≡ (8 + size e) * count
@@ -57,33 +51,40 @@ module _ (text : List ℕ) (rs : List Record) (count : ℕ) (h : count ≤ lengt
   unfolding start_place
   whole_fits room few f =
       let l = whole_length in
-      record { start = λ z. (omega (arith, l), f); within = h; editions = same; chunks = omega (arith, l, f); few = few }
+      record { start = (omega (arith, l), f); within = h; editions = same; chunks = omega (arith, l, f); few = few }
 
-pub plan_fits : (text : List ℕ) (rs : List Record) (count room : ℕ) → PlanFits text rs room (plan_of text rs count room)
-plan_fits text rs count room = go (plan_says text rs count room)
+plan_in : Plans → Plan → Plan
+plan_in (Ok p) q = p
+plan_in (Err why) q = q
+
+pub plan_fits : (text : List ℕ) (rs : List Record) (count room : ℕ) (plan : Plans) → plan ≡ plan_of text rs count room → (p : Plan) → plan ≡ Ok p → PlanFits text rs room p
+unfolding plan_in
+plan_fits text rs count room plan e p is = go (plan_says text rs count room)
   where
-    go : NotPlanned text rs count room (plan_of text rs count room) ⊎ Planned text rs count room (plan_of text rs count room) → PlanFits text rs room (plan_of text rs count room)
-    go (inl a) = rw a.plan (none_fits text rs room a.number a.place a.refusal)
-    go (inr b) = rw b.plan (whole_fits text rs count b.within b.edition b.editions b.seconds b.cntts b.down room b.few b.fits)
+    go : NotPlanned text rs count room (plan_of text rs count room) ⊎ Planned text rs count room (plan_of text rs count room) → PlanFits text rs room p
+    go (inl a) = let z : ◌≡◌ {A = Plans} (Ok p) (Err a.why) = sym is ∙ (e ∙ a.plan) in absurd cc
+    go (inr b) =
+        let z = ap (λ (x : Plans). plan_in x p) (sym is ∙ (e ∙ b.plan)) in
+        rw z (whole_fits text rs count b.within b.edition b.editions b.seconds b.cntts b.down room b.few b.fits)
 
 -- its records are of the edition of the first, and have the room that they ask for: so for the first m of them; where there are none, their edition plays no part
 place_none : (e f : Edition) (at n : ℕ) → n ≡ 0 → ctab_place e at n ≡ ctab_place f at n
 place_none e f at n h = rw h (omega arith)
 
 pub fits_first : (text : List ℕ) (rs : List Record) (room : ℕ) (p : Plan) → PlanFits text rs room p → (m : ℕ) → m ≤ p.records
-    → OneEdition (first_edition rs) rs m × (ctab_place (first_edition rs) (start_place text p) m ≤ room)
+    → OneEdition (first_edition rs) rs m × (ctab_place (first_edition rs) (start_place text (Ok p)) m ≤ room)
 unfolding first_edition
 fits_first text rs room p f m h = go (dec_lt 0 m)
   where
-    within : ctab_place p.edition (start_place text p) m ≤ room
-    within = omega (arith, place_within p.edition (start_place text p) m p.records h, f.chunks)
+    within : ctab_place p.edition (start_place text (Ok p)) m ≤ room
+    within = omega (arith, place_within p.edition (start_place text (Ok p)) m p.records h, f.chunks)
 
-    go : Dec (0 < m) → OneEdition (edition_of (get_or rs 0 blank)) rs m × (ctab_place (edition_of (get_or rs 0 blank)) (start_place text p) m ≤ room)
+    go : Dec (0 < m) → OneEdition (edition_of (get_or rs 0 blank)) rs m × (ctab_place (edition_of (get_or rs 0 blank)) (start_place text (Ok p)) m ≤ room)
     go (yes a) =
         let z : edition_of (get_or rs 0 blank) ≡ p.edition = sym (f.editions 0 (omega arith)) in
         (λ i l. z ∙ f.editions i (omega arith), rw z within)
     go (no a) =
-        let z = place_none (edition_of (get_or rs 0 blank)) p.edition (start_place text p) m (omega arith) in
+        let z = place_none (edition_of (get_or rs 0 blank)) p.edition (start_place text (Ok p)) m (omega arith) in
         (λ i l. absurd (omega arith), omega (arith, z, within))
 
 -- ---- the buffer
@@ -109,13 +110,9 @@ steps a b d out i e f =
 
 -- the frame, and the Ctabs in the room left for them
 abbrev pub buffer : List ℕ → List Record → List ℕ → Plan → List ℕ
-buffer text rs out p = replaced (framed text p out) (start_place text p) (flat_map ctab_bytes (take p.records rs))
+buffer text rs out p = replaced (framed text (Ok p) out) (start_place text (Ok p)) (flat_map ctab_bytes (take p.records rs))
 
 module _ (text : List ℕ) (rs : List Record) (out : List ℕ) where
-  none_written : (number place : ℕ) → (number ≡ 0 → ⊥) → buffer text rs out (no_plan number place) ≡ out
-  unfolding no_plan framed start_place start_bytes replaced cntts_down rows flat_map
-  none_written number place z = rw (ne_eqb number 0 z)
-
   module _ (count : ℕ) (h : count ≤ length rs) (e : Edition) (same : OneEdition e rs count) (seconds : ℕ) (cntts : List ℕ) (down : cntts_down cntts seconds ≡ cntts_bytes (take count rs)) (room : length (group_bytes (group_from text rs count)) ≤ length out) where
     abbrev front : List ℕ
     front = CSEG ++ (four (length (group_bytes (group_from text rs count)) - 8) ++ chunk Sdec text)
@@ -150,10 +147,19 @@ module _ (text : List ℕ) (rs : List Record) (out : List ℕ) where
 
 -- ---- the promise
 
-pub plan_written : (text : List ℕ) (rs : List Record) (count : ℕ) (out : List ℕ) (p : Plan) → p ≡ plan_of text rs count (length out) → GroupWritten text rs count out (measured_by p) (buffer text rs out p)
-unfolding measured_by no_plan measured number_of place_of value_or lent_after
-plan_written text rs count out p e = go (plan_says text rs count (length out))
+-- what is left in the buffer by a plan, or by a refusal
+unfoldable pub Left : List ℕ → List Record → List ℕ → Plans → List ℕ → Type 0
+Left text rs out (Ok p) last = last ≡ buffer text rs out p
+Left text rs out (Err why) last = last ≡ out
+
+pub plan_written : (text : List ℕ) (rs : List Record) (count : ℕ) (out last : List ℕ) (plan : Plans) → plan ≡ plan_of text rs count (length out) → Left text rs out plan last → GroupWritten text rs count out (measured_by plan) last
+unfolding measured_by measured number_of place_of value_or lent_after Left
+plan_written text rs count out last plan e w = go (plan_says text rs count (length out))
   where
-    go : NotPlanned text rs count (length out) (plan_of text rs count (length out)) ⊎ Planned text rs count (length out) (plan_of text rs count (length out)) → GroupWritten text rs count out (measured_by p) (buffer text rs out p)
-    go (inl a) = rw (e, a.plan) (record { answer = rw a.answer; buffer = none_written text rs out a.number a.place a.refusal ∙ rw a.answer })
-    go (inr b) = rw (e, b.plan) (record { answer = rw b.answer; buffer = whole_written text rs out count b.within b.edition b.editions b.seconds b.cntts b.down b.fits ∙ rw b.answer })
+    go : NotPlanned text rs count (length out) (plan_of text rs count (length out)) ⊎ Planned text rs count (length out) (plan_of text rs count (length out)) → GroupWritten text rs count out (measured_by plan) last
+    go (inl a) =
+        let z : last ≡ out = rw (e, a.plan) at w in
+        rw (e, a.plan) (record { answer = rw a.answer; buffer = z ∙ rw a.answer })
+    go (inr b) =
+        let z = rw (e, b.plan) at w in
+        rw (e, b.plan) (record { answer = rw b.answer; buffer = z ∙ (whole_written text rs out count b.within b.edition b.editions b.seconds b.cntts b.down b.fits ∙ rw b.answer) })

@@ -1,7 +1,7 @@
 // The chunk writers: each writes at the start of what it is lent and lends on the tail behind its header.
 ghost use Rattle.std.specs.Prelude.{◌≡◌, ◌++◌, ◌+◌, ◌≤◌, length, drop};
 ghost use Rattle.layout.specs.Bytes.{CSEG as CSEGTAG, Sdec, four, chunk};
-ghost use Rattle.layout.specs.declared.record.SecondTable.TheVariants.{Value};
+ghost use Rattle.layout.specs.Records.{Value};
 ghost use Rattle.layout.specs.Editions.{tag_of, size, held, closing};
 ghost use Rattle.layout.specs.Write.{cntt_bytes};
 

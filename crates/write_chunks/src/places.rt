@@ -41,11 +41,9 @@ pub fn put_cntts(out: &mut [u8], at: usize, cntts: [u8; 32], n: usize)
     requires { (n ≤ 16) × (at + 10 * n ≤ length out.old) }
     ensures { out.new ≡ replaced out.old at (cntts_down cntts n) }
 {
-    let mut k: usize = 0;
-    while k < n {
+    for k in 0..n {
         let from = CNTT_BYTES * k;
         let to = at + CNTT_STRIDE * k;
         put_cntt(&mut out[to..], cntts[from], cntts[from + 1]);
-        k += 1;
     }
 }

@@ -1,4 +1,5 @@
 // What chunks are made of: bytes, a header, a record. Each writer writes at the start of what it is lent.
+// An edition and the bytes held of a record are two parameters here and above: callers have them apart, and `put_ctab(edition, out, b)` would be `put_ctab(Held { edition: edition, bytes: b }, out)`.
 ghost use Rattle.std.specs.Prelude.{◌≡◌, ◌++◌, ◌≤◌, length, drop};
 ghost use Rattle.layout.specs.Bytes.{four};
 ghost use Rattle.layout.specs.Editions.{size, held, closing};
@@ -11,11 +12,7 @@ pub fn put_bytes(out: &mut [u8], b: &[u8])
     requires { length b.now ≤ length out.old }
     ensures { out.new ≡ b.now ++ drop (length b.now) out.old }
 {
-    let mut i: usize = 0;
-    while i < b.len() {
-        out[i] = b[i];
-        i += 1;
-    }
+    out[..b.len()].copy_from_slice(b);
 }
 
 // A chunk's header: four tag bytes and a length, high byte first.

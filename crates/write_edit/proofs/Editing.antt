@@ -23,7 +23,7 @@ use Rattle.layout.proofs.Editions.{alike_is, closed_length}
 use Rattle.layout.proofs.Outs.{out_take}
 use Rattle.layout.proofs.Records.{bytes_length}
 use Rattle.layout.proofs.Scans.{first_alike}
-use Rattle.read_find.specs.declared.row.Sought.TheVariants.{Refused as No, At}
+use Rattle.read_find.specs.Row.{Refused as No, At}
 use Rattle.read_find.specs.Row.{sought}
 use Rattle.read_find.proofs.RowLaws.{record_refused, record_there}
 use Rattle.write_chunks.proofs.Stored.{held_are, record_stored}

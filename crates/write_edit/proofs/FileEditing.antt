@@ -26,8 +26,8 @@ use Rattle.layout.specs.Promises.{FileEdited}
 use Rattle.layout.proofs.Accepted.{body_place}
 use Rattle.layout.proofs.Editions.{alike_is, size_least}
 use Rattle.layout.proofs.Replaced.{replaced_length, replaced_whole, replaced_behind, replaced_before}
-use Rattle.read_find.specs.declared.Search.TheVariants.{Refused, Missing, Found}
-use Rattle.read_find.specs.declared.row.Sought.TheVariants.{Refused as No, At}
+use Rattle.read_find.specs.Find.{Refused, Missing, Found}
+use Rattle.read_find.specs.Row.{Refused as No, At}
 use Rattle.read_find.specs.Find.{part_located}
 use Rattle.read_find.specs.Row.{sought}
 use Rattle.read_find.proofs.AskLaws.{PartThere, part_there_is, part_stopped, part_ended, part_asked}

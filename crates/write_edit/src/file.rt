@@ -9,9 +9,9 @@ use layout::answer::Answered;
 use layout::lock::Override;
 use layout::record::{Record, SourceChannel};
 use layout::refusal::NOT_THERE;
+use read_find::locate_part;
 use read_find::look::section_body;
-use read_find::row::{Sought, find_in};
-use read_find::{Search, locate_part};
+use read_find::row::find_in;
 use read_style::find_casm;
 
 // The file whose CASM tag stands at `tag`, before a body of so many bytes: the body's refusal with its place in the file, 15 for the part and for the channel, then as `edit_at` has it.
@@ -29,11 +29,11 @@ fn edit_found(
 {
     let s = section_body(file, tag, length);
     match locate_part(s, name) {
-        Search::Refused(number, place) => answer(number, tag + 8 + place),
-        Search::Missing => answer(NOT_THERE, 0),
-        Search::Found(_, x) => match find_in(s, x, channel) {
-            Sought::Refused(number, place) => answer(number, place),
-            Sought::At(edition, _, at) => edit_at(file, edition, tag + 8 + at, channel, new, over),
+        Err(why) => answer(why.number, tag + 8 + why.place),
+        Ok(None) => answer(NOT_THERE, 0),
+        Ok(Some(x)) => match find_in(s, x.standing, channel) {
+            Err(why) => answer(why.number, why.place),
+            Ok(row) => edit_at(file, row.edition, tag + 8 + row.at, channel, new, over),
         },
     }
 }

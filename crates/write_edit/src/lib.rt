@@ -14,20 +14,17 @@ use layout::edition::Edition;
 use layout::lock::{LOCK, LOCKED, Override};
 use layout::record::{Record, SourceChannel};
 use layout::refusal::{BAD_NUMBER, OTHER_EDITION, OUT_OF_RANGE, READ_ONLY};
-use read_find::row::{Sought, find_record};
+use read_find::row::find_record;
 use read_ranges::first_out_held;
 use read_record::bytes::bytes_of;
-use read_record::edition::{held_of, is_alike};
+use read_record::edition::held_of;
 use read_record::held::edition_of;
 use write_chunks::put::put_held;
 
 pub(crate) fn answer(number: u8, place: usize) -> Answered
     ensures { result ≡ told number place }
 {
-    Answered {
-        number: number,
-        place: place,
-    }
+    Answered { number, place }
 }
 
 // Whether a record with this byte 10 stays as it is: it is locked, and the caller does not ask to override.
@@ -57,7 +54,7 @@ pub(crate) fn edit_at(
         return answer(BAD_NUMBER, 0);
     }
     let own = edition_of(new);
-    if !is_alike(edition, own) {
+    if edition != own {
         return answer(OTHER_EDITION, 0);
     }
     let lock = s[at + LOCK];
@@ -85,7 +82,7 @@ pub fn edit_record(
     ensures { RecordEdited s.old group channel.0 new over result s.new }
 {
     match find_record(s, group, channel) {
-        Sought::Refused(number, place) => answer(number, place),
-        Sought::At(edition, _, at) => edit_at(s, edition, at, channel, new, over),
+        Err(why) => answer(why.number, why.place),
+        Ok(row) => edit_at(s, row.edition, row.at, channel, new, over),
     }
 }

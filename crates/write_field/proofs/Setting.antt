@@ -9,7 +9,7 @@ use lib.ListN.{length, set, take, length-set, length-take, get_or-append}
 use lib.Seq.{set-append_left, take_at}
 use borrow.Author.Tests.{le-leb, lt-leb}
 use Rattle.layout.specs.declared.edition.Edition.{Edition}
-use Rattle.layout.specs.declared.record.SecondTable.{SecondTable}
+use Rattle.layout.specs.Records.{SecondTable}
 use Rattle.layout.specs.declared.record.Record.{Record}
 use Rattle.layout.specs.Editions.{held}
 use Rattle.layout.specs.Lock.{locks}

@@ -27,6 +27,7 @@ fn is_kept(index: usize, lock: u8) -> bool
 }
 
 // The record with one byte set; the Cntt and its position are kept. Of a locked record the lock alone is set.
+// The answer is `Changed`, which the promise and C have: a Result inside would only be made into it again, by `Err(why) => Changed { number: why.number, place: why.place, held: r }`.
 pub fn set_field(r: Record, index: usize, value: u8) -> Changed
     ensures { FieldSet r index value result }
 {
@@ -63,6 +64,6 @@ pub fn set_field(r: Record, index: usize, value: u8) -> Changed
     Changed {
         number: 0,
         place: 0,
-        held: held,
+        held,
     }
 }

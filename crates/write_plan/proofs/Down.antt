@@ -1,5 +1,5 @@
 -- One Cntt laid down: whether its position is free, how many Cntts there must be then, and what is laid down after it. And those laid down, read one after the other.
-use Prim.Native.Nat.{ℕ, zero, suc, ◌+◌, ◌*◌, ◌-◌, ◌≤◌, ◌<◌}
+use Prim.Native.Nat.{ℕ, zero, suc, max, ◌+◌, ◌*◌, ◌-◌, ◌≤◌, ◌<◌}
 use mathlib.Core.Path.{◌≡◌, refl, sym, ap, ap₂, ◌∙◌}
 use mathlib.Core.Bool.{Bool, true, false, ◌&&◌, ◌||◌, true≢false}
 use mathlib.Core.List.{List, [], ◌++◌, flat_map}
@@ -9,8 +9,8 @@ use native.Mathlib.Numerals.{add-one}
 use lib.Dec.{ltb, leb, eqb}
 use lib.ListN.{length, get_or, set, length-append}
 use borrow.Author.Tests.{lt-ltb, le-ltb, le-leb, lt-leb, eq-eqb, ne_eqb, ltb-true, leb-true, eqb-true}
-use Rattle.layout.specs.declared.record.SecondTable.{SecondTable}
-use Rattle.layout.specs.declared.record.SecondTable.TheVariants.{Absent, Value}
+use Rattle.layout.specs.Records.{SecondTable}
+use Rattle.layout.specs.Records.{Absent, Value}
 use Rattle.layout.specs.Bytes.{four, chunk}
 use Rattle.layout.specs.Lists.{rows}
 use Rattle.layout.proofs.Lists.{rows_last, flat_map_last}
@@ -75,6 +75,14 @@ module _ (a b : ℕ) where
   pub larger_first : b ≤ a → larger a b ≡ a
   unfolding larger
   larger_first h = rw (le-ltb a b h)
+
+  -- .. which the library calls max
+  pub larger_is : max a b ≡ larger a b
+  larger_is = go (dec_lt a b)
+    where
+      go : Dec (a < b) → max a b ≡ larger a b
+      go (yes l) = omega (arith, larger_second l)
+      go (no l) = omega (arith, larger_first (omega arith))
 
   -- a number is below the larger of two where it is below one of them
   pub below_larger : (m : ℕ) → ltb m (larger a b) ≡ ltb m b || ltb m a

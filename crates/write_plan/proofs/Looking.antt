@@ -1,18 +1,19 @@
 -- What may be written: one law for each way out.
 use Prim.Native.Nat.{ℕ, zero, suc, ◌+◌, ◌*◌, ◌^◌, ◌≤◌, ◌<◌}
-use mathlib.Core.Path.{◌≡◌, sym, ap, ap₂, ◌∙◌}
+use mathlib.Core.Path.{◌≡◌, refl, sym, ap, ap₂, ◌∙◌}
 use mathlib.Core.Bool.{true, false}
 use mathlib.Core.List.{List}
 use native.Mathlib.Omega.{arith}
 use native.Mathlib.Decide.{dec_lt}
 use lib.Bits.{bit_or}
 use lib.ListN.{length, get_or}
-use borrow.Author.Tests.{eq-eqb, ne_eqb, lt-ltb, le-ltb}
+use borrow.Author.Tests.{ne_eqb, lt-ltb, le-ltb}
+use Rattle.std.specs.Prelude.{Ok, Err, None, Some}
+use Rattle.layout.specs.declared.turn.Refusal.{Refusal}
 use Rattle.layout.specs.declared.edition.Edition.{Edition}
 use Rattle.layout.specs.declared.edition.Edition.TheVariants.{First, Second}
 use Rattle.layout.specs.declared.record.Record.{Record}
-use Rattle.layout.specs.declared.record.SecondTable.{SecondTable}
-use Rattle.layout.specs.declared.record.SecondTable.TheVariants.{Absent, Value}
+use Rattle.layout.specs.Records.{SecondTable}
 use Rattle.layout.specs.Plays.{bit}
 use Rattle.layout.specs.Editions.{size, held, alike}
 use Rattle.layout.specs.Records.{blank, record_of, channel_of, edition_of, second_in, position_in, first_bad, laid_out}
@@ -22,7 +23,7 @@ use Rattle.layout.proofs.Editions.{alike_is}
 use Rattle.layout.proofs.Records.{ranged, ranged_channel}
 use Rattle.write_plan.specs.declared.Checked.{Checked}
 use Rattle.write_plan.specs.declared.Taken.{Taken}
-use Rattle.write_plan.specs.Checking.{refused_at, first_checked, due, chunks_size, second_by, laid_down, claimed, larger, looked, laid_after, taken, taken_at, no_plan, planned}
+use Rattle.write_plan.specs.Checking.{Looks, refused_at, first_checked, due, chunks_size, first_only, second_by, laid_down, claimed, larger, looked, laid_where, laid_after, taken, taken_at, no_plan, planned, begun, records_in, plan_of}
 use Rattle.layout.proofs.BytesBack.{edition_made}
 use Rattle.write_plan.proofs.Made.{channel_made, Alike, laid_alike}
 
@@ -36,7 +37,7 @@ module _ (text : List ℕ) (lent count : ℕ) where
     unfolding first_checked
     begun_bad e = rw (le-ltb lent count h, e)
 
-    pub begun_sound : sound_text text ≡ true → first_checked text lent count ≡ record { number = 0; place = 0; records = count; edition = First; length = 16 + length text; seen = 0; seconds = 0; reach = 0 }
+    pub begun_sound : sound_text text ≡ true → first_checked text lent count ≡ Ok (record { records = count; edition = First; length = 16 + length text; seen = 0; seconds = 0; reach = 0 })
     unfolding first_checked
     begun_sound e = rw (le-ltb lent count h, e)
 
@@ -53,8 +54,8 @@ channel_shift e b second k h l =
 -- a record has at most one Cntt
 pub count_most : (second : SecondTable) → cntt_count second ≤ 1
 unfolding cntt_count
-count_most Absent = omega arith
-count_most (Value v) = omega arith
+count_most None = omega arith
+count_most (Some v) = omega arith
 
 -- no record is longer than a Ctb2's
 pub size_within : (e : Edition) → size e ≤ 47
@@ -63,7 +64,7 @@ size_within Second = omega arith
 
 -- a record's chunks are at most 55 bytes: a Ctb2 has no Cntt
 sizes_most : (e : Edition) (second : SecondTable) → chunks_size e (cntt_count (second_by e second)) ≤ 55
-unfolding chunks_size second_by cntt_count
+unfolding chunks_size first_only cntt_count
 sizes_most First second = omega (arith, count_most second)
 sizes_most Second second = omega arith
 
@@ -90,97 +91,105 @@ place_most Second i = omega arith
 
 -- ---- a record looked at
 
-module _ (c : List ℕ) (x : Checked) (i : ℕ) (r : Record) where
-  pub looked_stays : (x.number ≡ 0 → ⊥) → looked c x i r ≡ x
-  unfolding looked
-  looked_stays h = rw (ne_eqb x.number 0 h)
-
-  module _ (z : x.number ≡ 0) (e d : Edition) (is : e ≡ edition_of r) (at : d ≡ due i x.edition e) (p : ℕ) (place : p ≡ size d * i) where
-    pub looked_unlike : alike d e ≡ false → looked c x i r ≡ refused_at 21 p
+module _ (c : List ℕ) (before : Looks) (i : ℕ) (r : Record) where
+  module _ (why : Refusal) (b : before ≡ Err why) where
+    pub looked_stays : looked c before i r ≡ Err why
     unfolding looked
-    looked_unlike t = rw (eq-eqb x.number 0 z, ← is, ← at, t, ← place)
+    looked_stays = rw b
+
+    pub after_stays : c ≡ laid_after c before i r
+    unfolding laid_after laid_where
+    after_stays = sym (rw looked_stays)
+
+  module _ (x : Checked) (b : before ≡ Ok x) (e d : Edition) (is : e ≡ edition_of r) (at : d ≡ due i x.edition e) (p : ℕ) (place : p ≡ size d * i) where
+    pub looked_unlike : alike d e ≡ false → looked c before i r ≡ refused_at 21 p
+    unfolding looked
+    looked_unlike t = rw (b, ← is, ← at, t, ← place)
 
     module _ (t : alike d e ≡ true) (k : ℕ) (f : k ≡ first_bad r) where
-      pub looked_bad : k < held e → looked c x i r ≡ refused_at 9 (p + k)
+      pub looked_bad : k < held e → looked c before i r ≡ refused_at 9 (p + k)
       unfolding looked
-      looked_bad h = rw (eq-eqb x.number 0 z, ← is, ← at, t, ← f, lt-ltb k (held e) h, ← place)
+      looked_bad h = rw (b, ← is, ← at, t, ← f, lt-ltb k (held e) h, ← place)
 
       module _ (h : held e ≤ k) where
-        pub looked_again : bit x.seen (channel_of r) ≡ true → looked c x i r ≡ refused_at 10 p
+        pub looked_again : bit x.seen (channel_of r) ≡ true → looked c before i r ≡ refused_at 10 p
         unfolding looked
-        looked_again b = rw (eq-eqb x.number 0 z, ← is, ← at, t, ← f, le-ltb k (held e) h, b, ← place)
+        looked_again w = rw (b, ← is, ← at, t, ← f, le-ltb k (held e) h, w, ← place)
 
         pub looked_on : bit x.seen (channel_of r) ≡ false → (seen : ℕ) → seen ≡ bit_or x.seen (2 ^ channel_of r) → (second : SecondTable) → second ≡ second_in r → (position : ℕ) → position ≡ position_in r
             → (more : ℕ) → more ≡ cntt_count second → (n : ℕ) → n ≡ chunks_size d more → (reach : ℕ) → reach ≡ larger x.reach (claimed c position second)
-            → looked c x i r ≡ record { number = 0; place = 0; records = x.records; edition = d; length = x.length + n; seen = seen; seconds = x.seconds + more; reach = reach }
+            → looked c before i r ≡ Ok (record { records = x.records; edition = d; length = x.length + n; seen = seen; seconds = x.seconds + more; reach = reach })
         unfolding looked
-        looked_on b seen s second w position v more m n q reach u =
-            rw (eq-eqb x.number 0 z, ← is, ← at, t, ← f, le-ltb k (held e) h, b, ← s, ← w, ← v, ← m, ← q, ← u)
+        looked_on z seen s second w position v more m n q reach u =
+            rw (b, ← is, ← at, t, ← f, le-ltb k (held e) h, z, ← s, ← w, ← v, ← m, ← q, ← u)
 
   -- ---- the Cntts laid down after it
 
-  pub after_stays : (x.number ≡ 0 → ⊥) → c ≡ laid_after c x i r
-  unfolding laid_after
-  after_stays h = sym (rw (looked_stays h, ne_eqb x.number 0 h))
+  pub after_refused : (number place : ℕ) → looked c before i r ≡ refused_at number place → c ≡ laid_after c before i r
+  unfolding laid_after laid_where
+  after_refused number place e = sym (rw e)
 
-  pub after_refused : (number place : ℕ) → (number ≡ 0 → ⊥) → looked c x i r ≡ refused_at number place → c ≡ laid_after c x i r
-  unfolding laid_after refused_at
-  after_refused number place z e = sym (rw (e, ne_eqb number 0 z))
-
-  pub after_on : (y : Checked) → looked c x i r ≡ y → y.number ≡ 0 → (second : SecondTable) → second ≡ second_in r → (position : ℕ) → position ≡ position_in r
-      → (d : List ℕ) → d ≡ laid_down c position (channel_of r) second → d ≡ laid_after c x i r
-  unfolding laid_after
-  after_on y e z second w position v d q = q ∙ sym (rw (e, eq-eqb y.number 0 z, ← w, ← v))
+  pub after_on : (y : Checked) → looked c before i r ≡ Ok y → (second : SecondTable) → second ≡ second_in r → (position : ℕ) → position ≡ position_in r
+      → (d : List ℕ) → d ≡ laid_down c position (channel_of r) second → d ≡ laid_after c before i r
+  unfolding laid_after laid_where
+  after_on y e second w position v d q = q ∙ sym (rw (e, ← w, ← v))
 
 -- ---- its edition, its bytes, its second table and its position are all that is looked at
 
-module _ (c : List ℕ) (x : Checked) (i : ℕ) (r q : Record) (a : Alike r q) where
-  looked_alike : looked c x i r ≡ looked c x i q
+module _ (c : List ℕ) (i : ℕ) (r q : Record) (a : Alike r q) where
+  looked_alike : (x : Looks) → looked c x i r ≡ looked c x i q
   unfolding looked
-  looked_alike = rw (a.edition, a.bad, a.channel, a.second, a.position)
+  looked_alike (Err why) = refl
+  looked_alike (Ok x) = rw (a.edition, a.bad, a.channel, a.second, a.position)
 
-  after_alike : laid_after c x i r ≡ laid_after c x i q
-  unfolding laid_after
-  after_alike = rw (looked_alike, a.channel, a.second, a.position)
+  after_alike : (x : Looks) → laid_after c x i r ≡ laid_after c x i q
+  unfolding laid_after laid_where
+  after_alike x = rw (looked_alike x, a.channel, a.second, a.position)
 
-pub taken_held : (t : Taken) (i : ℕ) (r : Record) (b : List ℕ) (e : Edition) (second : SecondTable) (position : ℕ) (y : Checked) (c : List ℕ)
+pub taken_held : (t : Taken) (i : ℕ) (r : Record) (b : List ℕ) (e : Edition) (second : SecondTable) (position : ℕ) (y : Looks) (c : List ℕ)
     → b ≡ laid_out r → e ≡ edition_of r → second ≡ second_in r → position ≡ position_in r
     → (y ≡ looked t.cntts t.checked i (record_of e b second position)) × (c ≡ laid_after t.cntts t.checked i (record_of e b second position))
     → record { checked = y; cntts = c } ≡ taken t i r
 taken_held t i r b e second position y c f g h k w =
     let z : record_of e b second position ≡ record_of (edition_of r) (laid_out r) (second_in r) (position_in r) = rw (f, g, h, k) in
-    ap₂ {C = Taken} (λ (a : Checked) (l : List ℕ). record { checked = a; cntts = l })
-    (w.0 ∙ (ap (looked t.cntts t.checked i) z ∙ looked_alike t.cntts t.checked i _ r (laid_alike r)))
-    (w.1 ∙ (ap (laid_after t.cntts t.checked i) z ∙ after_alike t.cntts t.checked i _ r (laid_alike r)))
+    ap₂ {C = Taken} (λ (a : Looks) (l : List ℕ). record { checked = a; cntts = l })
+    (w.0 ∙ (ap (looked t.cntts t.checked i) z ∙ looked_alike t.cntts i _ r (laid_alike r) t.checked))
+    (w.1 ∙ (ap (laid_after t.cntts t.checked i) z ∙ after_alike t.cntts i _ r (laid_alike r) t.checked))
 
 -- a refusal stays, however many records are looked at behind it
-module _ (t : Taken) (rs : List Record) (i : ℕ) (h : (taken_at t rs i).checked.number ≡ 0 → ⊥) where
-  pub taken_stays : (n : ℕ) → i ≤ n → (taken_at t rs n).checked ≡ (taken_at t rs i).checked
+module _ (t : Taken) (rs : List Record) (i : ℕ) (why : Refusal) (h : (taken_at t rs i).checked ≡ Err why) where
+  pub taken_stays : (n : ℕ) → i ≤ n → (taken_at t rs n).checked ≡ Err why
   unfolding taken_at
-  taken_stays zero l = let z : 0 ≡ i = omega arith in ap (λ (k : ℕ). (taken_at t rs k).checked) z
+  taken_stays zero l = let z : 0 ≡ i = omega arith in ap (λ (k : ℕ). (taken_at t rs k).checked) z ∙ h
   taken_stays (suc n) l = go (dec_lt n i) (λ (m : i ≤ n). taken_stays n m)
     where
-      go : Dec (n < i) → (i ≤ n → (taken_at t rs n).checked ≡ (taken_at t rs i).checked) → (taken_at t rs (suc n)).checked ≡ (taken_at t rs i).checked
-      go (yes b) before = let z : suc n ≡ i = omega arith in ap (λ (k : ℕ). (taken_at t rs k).checked) z
-      go (no b) before =
-          let e = before (omega arith) in
-          looked_stays (taken_at t rs n).cntts (taken_at t rs n).checked n (get_or rs n blank) (λ q. h (sym (ap (λ (x : Checked). x.number) e) ∙ q)) ∙ e
+      go : Dec (n < i) → (i ≤ n → (taken_at t rs n).checked ≡ Err why) → (taken_at t rs (suc n)).checked ≡ Err why
+      go (yes b) before = let z : suc n ≡ i = omega arith in ap (λ (k : ℕ). (taken_at t rs k).checked) z ∙ h
+      go (no b) before = looked_stays (taken_at t rs n).cntts (taken_at t rs n).checked n (get_or rs n blank) why (before (omega arith))
 
 module _ (t : Taken) (room : ℕ) where
-  pub planned_not : (t.checked.number ≡ 0 → ⊥) → planned t room ≡ no_plan t.checked.number t.checked.place
+  pub planned_not : (why : Refusal) → t.checked ≡ Err why → planned t room ≡ Err why
   unfolding planned
-  planned_not h = rw (ne_eqb t.checked.number 0 h)
+  planned_not why h = rw h
 
-  module _ (z : t.checked.number ≡ 0) where
-    pub planned_wrong : t.checked.seconds < t.checked.reach → planned t room ≡ no_plan 18 0
+  module _ (x : Checked) (z : t.checked ≡ Ok x) where
+    pub planned_wrong : x.seconds < x.reach → planned t room ≡ no_plan 18 0
     unfolding planned
-    planned_wrong h = rw (eq-eqb t.checked.number 0 z, lt-ltb t.checked.seconds t.checked.reach h)
+    planned_wrong h = rw (z, lt-ltb x.seconds x.reach h)
 
-    module _ (w : t.checked.reach ≤ t.checked.seconds) where
-      pub planned_short : room < t.checked.length → planned t room ≡ no_plan 14 0
+    module _ (w : x.reach ≤ x.seconds) where
+      pub planned_short : room < x.length → planned t room ≡ no_plan 14 0
       unfolding planned
-      planned_short h = rw (eq-eqb t.checked.number 0 z, le-ltb t.checked.seconds t.checked.reach w, lt-ltb room t.checked.length h)
+      planned_short h = rw (z, le-ltb x.seconds x.reach w, lt-ltb room x.length h)
 
-      pub planned_fits : t.checked.length ≤ room → planned t room ≡ record { number = 0; place = 0; records = t.checked.records; edition = t.checked.edition; length = t.checked.length; seconds = t.checked.seconds; cntts = t.cntts }
+      pub planned_fits : x.length ≤ room → planned t room ≡ Ok (record { records = x.records; edition = x.edition; length = x.length; seconds = x.seconds; cntts = t.cntts })
       unfolding planned
-      planned_fits h = rw (eq-eqb t.checked.number 0 z, le-ltb t.checked.seconds t.checked.reach w, le-ltb room t.checked.length h)
+      planned_fits h = rw (z, le-ltb x.seconds x.reach w, le-ltb room x.length h)
+
+-- the refusal that some records come to is that of writing, however many follow
+module _ (text : List ℕ) (rs : List Record) (count room i : ℕ) (why : Refusal) (l : i ≤ records_in (begun text (length rs) count).checked) where
+  pub plan_stays : (taken_at (begun text (length rs) count) rs i).checked ≡ Err why → plan_of text rs count room ≡ Err why
+  unfolding plan_of
+  plan_stays h =
+      let t = begun text (length rs) count in
+      planned_not (taken_at t rs (records_in t.checked)) room why (taken_stays t rs i why h (records_in t.checked) l)

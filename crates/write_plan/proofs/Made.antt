@@ -10,23 +10,23 @@ use Rattle.layout.specs.declared.edition.Edition.TheVariants.{First, Second}
 use Rattle.layout.specs.declared.record.Form.{Form}
 use Rattle.layout.specs.declared.record.Form.TheVariants.{One, Three}
 use Rattle.layout.specs.declared.record.Record.{Record}
-use Rattle.layout.specs.declared.record.SecondTable.{SecondTable}
+use Rattle.layout.specs.Records.{SecondTable}
 use Rattle.layout.specs.Editions.{held}
 use Rattle.layout.specs.Records.{bytes_of, head_bytes, form_bytes, form_of, record_with, record_of, channel_of, form_edition, edition_of, form_second, second_in, form_position, position_in, bad_byte, first_bad, laid_out}
 use Rattle.layout.proofs.Editions.{held_spare}
 use Rattle.layout.proofs.BytesBack.{edition_made}
 use Rattle.layout.proofs.Records.{laid_length}
 use Rattle.read_record.proofs.BadBytes.{bad_held}
-use Rattle.write_plan.specs.Checking.{second_by, position_by}
+use Rattle.write_plan.specs.Checking.{first_only, second_by, position_by}
 
 module _ (b : List ℕ) (second : SecondTable) (position : ℕ) where
   pub second_made : (e : Edition) → second_in (record_of e b second position) ≡ second_by e second
-  unfolding record_of record_with form_of form_second second_by
+  unfolding record_of record_with form_of form_second first_only
   second_made First = refl
   second_made Second = refl
 
   pub position_made : (e : Edition) → position_in (record_of e b second position) ≡ position_by e position
-  unfolding record_of record_with form_of form_position position_by
+  unfolding record_of record_with form_of form_position first_only
   position_made First = refl
   position_made Second = refl
 
@@ -43,12 +43,12 @@ module _ (b : List ℕ) (second : SecondTable) (position : ℕ) where
 -- ---- a record in memory, and the record of its bytes laid out
 
 pub second_kept : (f : Form) → second_by (form_edition f) (form_second f) ≡ form_second f
-unfolding form_edition form_second second_by
+unfolding form_edition form_second first_only
 second_kept (One x) = refl
 second_kept (Three x) = refl
 
 position_kept : (f : Form) → position_by (form_edition f) (form_position f) ≡ form_position f
-unfolding form_edition form_position position_by
+unfolding form_edition form_position first_only
 position_kept (One x) = refl
 position_kept (Three x) = refl
 

@@ -13,8 +13,9 @@ use borrow.Author.Tests.{lt-ltb, le-ltb, ltb-true, ltb-false}
 use Rattle.layout.specs.declared.edition.Edition.{Edition}
 use Rattle.layout.specs.declared.edition.Edition.TheVariants.{First, Second}
 use Rattle.layout.specs.declared.record.Record.{Record}
-use Rattle.layout.specs.declared.turn.Run.TheVariants.{Ended}
-use Rattle.layout.specs.Scan.{run}
+use Rattle.std.specs.Prelude.{Ok, Err}
+use Rattle.layout.specs.declared.turn.Refusal.{Refusal}
+use Rattle.layout.specs.Scan.{Ended, run}
 use Rattle.layout.specs.Bytes.{four, chunk}
 use Rattle.layout.specs.Answers.{refused, granted, after_run}
 use Rattle.layout.specs.Editions.{tag_of, size as size_of, closing}
@@ -26,9 +27,9 @@ use Rattle.layout.proofs.Records.{bytes_length}
 use Rattle.layout.proofs.Runs.{run_end}
 use Rattle.layout.proofs.Sixteen.{at_most_sixteen}
 use Rattle.write_plan.specs.declared.Taken.{Taken}
-use Rattle.write_plan.specs.declared.Plan.{Plan}
+use Rattle.write_plan.specs.declared.Checked.{Checked}
 use Rattle.write_plan.specs.Chunks.{cntts_down}
-use Rattle.write_plan.specs.Checking.{no_cntts, refused_at, taken, taken_at, OneEdition, no_plan, planned, plan_of}
+use Rattle.write_plan.specs.Checking.{Looks, Plans, no_cntts, refused_at, records_in, taken, taken_at, OneEdition, no_plan, planned, plan_of}
 use Rattle.write_plan.proofs.Seen.{seen_start}
 use Rattle.write_plan.proofs.Looking.{begun_many, begun_bad, begun_sound, planned_not, planned_wrong, planned_short, planned_fits}
 use Rattle.write_plan.proofs.Down.{cntts_length}
@@ -69,25 +70,27 @@ editions_take e rs n h all i l =
 -- ---- what a plan says
 
 -- refused, as writing is
-pub record NotPlanned (text : List ℕ) (table : List Record) (count room : ℕ) (p : Plan) : Type 0 where
-  pub number : ℕ
-  pub place : ℕ
-  pub refusal : number ≡ 0 → ⊥
-  pub plan : p ≡ no_plan number place
-  pub answer : written text table count room ≡ refused number place
+pub record NotPlanned (text : List ℕ) (table : List Record) (count room : ℕ) (p : Plans) : Type 0 where
+  pub why : Refusal
+  pub plan : p ≡ Err why
+  pub answer : written text table count room ≡ refused why.number why.place
 
 -- accepted, and the group fits
-pub record Planned (text : List ℕ) (table : List Record) (count room : ℕ) (p : Plan) : Type 0 where
+pub record Planned (text : List ℕ) (table : List Record) (count room : ℕ) (p : Plans) : Type 0 where
   pub edition : Edition
   pub seconds : ℕ
   pub cntts : List ℕ
-  pub plan : p ≡ record { number = 0; place = 0; records = count; edition = edition; length = length (group_bytes (group_from text table count)); seconds = seconds; cntts = cntts }
+  pub plan : p ≡ Ok (record { records = count; edition = edition; length = length (group_bytes (group_from text table count)); seconds = seconds; cntts = cntts })
   pub within : count ≤ length table
   pub editions : OneEdition edition table count
   pub few : seconds ≤ 16
   pub down : cntts_down cntts seconds ≡ cntts_bytes (take count table)
   pub fits : length (group_bytes (group_from text table count)) ≤ room
   pub answer : written text table count room ≡ granted (group_bytes (group_from text table count))
+
+edition_in : Looks → Edition
+edition_in (Ok x) = x.edition
+edition_in (Err why) = First
 
 -- the records past the count are not looked at
 looked_take : (t : Taken) (rs : List Record) (n i : ℕ) → i ≤ n → taken_at t rs i ≡ taken_at t (take n rs) i
@@ -96,27 +99,27 @@ looked_take t rs n zero h = refl
 looked_take t rs n (suc i) h = ap₂ (λ (a : Taken) (r : Record). taken a i r) (looked_take t rs n i (omega arith)) (sym (get_or-take n rs i blank (omega arith)))
 
 module _ (text : List ℕ) (table : List Record) (count room : ℕ) where
-  abbrev Says : Plan → Type 0
+  abbrev Says : Plans → Type 0
   Says p = NotPlanned text table count room p ⊎ Planned text table count room p
 
   many : length table < count → Says (plan_of text table count room)
-  unfolding plan_of taken_at refused_at written
+  unfolding plan_of records_in taken_at written
   many h =
-      let e : plan_of text table count room ≡ no_plan 16 0 = rw (begun_many text (length table) count h) (planned_not (record { checked = refused_at 16 0; cntts = no_cntts }) room (omega arith)) in
-      inl (record { number = 16; place = 0; refusal = omega arith; plan = e; answer = rw (lt-ltb (length table) count h) })
+      let e : plan_of text table count room ≡ no_plan 16 0 = rw (begun_many text (length table) count h) (planned_not (record { checked = refused_at 16 0; cntts = no_cntts }) room _ refl) in
+      inl (record { why = _; plan = e; answer = rw (lt-ltb (length table) count h) })
 
   bad : count ≤ length table → sound_text text ≡ false → Says (plan_of text table count room)
-  unfolding plan_of taken_at refused_at written
+  unfolding plan_of records_in taken_at written
   bad h f =
-      let e : plan_of text table count room ≡ no_plan 8 0 = rw (begun_bad text (length table) count h f) (planned_not (record { checked = refused_at 8 0; cntts = no_cntts }) room (omega arith)) in
-      inl (record { number = 8; place = 0; refusal = omega arith; plan = e; answer = rw (le-ltb (length table) count h, f) })
+      let e : plan_of text table count room ≡ no_plan 8 0 = rw (begun_bad text (length table) count h f) (planned_not (record { checked = refused_at 8 0; cntts = no_cntts }) room _ refl) in
+      inl (record { why = _; plan = e; answer = rw (le-ltb (length table) count h, f) })
 
   module _ (h : count ≤ length table) (f : sound_text text ≡ true) where
     abbrev rs : List Record
     rs = take count table
 
     abbrev begins : Taken
-    begins = record { checked = record { number = 0; place = 0; records = count; edition = First; length = 16 + length text; seen = 0; seconds = 0; reach = 0 }; cntts = no_cntts }
+    begins = record { checked = Ok (record { records = count; edition = First; length = 16 + length text; seen = 0; seconds = 0; reach = 0 }); cntts = no_cntts }
 
     abbrev ends : Taken
     ends = taken_at begins rs count
@@ -125,7 +128,7 @@ module _ (text : List ℕ) (table : List Record) (count room : ℕ) where
     long = length-take-le count table h
 
     looks : plan_of text table count room ≡ planned ends room
-    unfolding plan_of
+    unfolding plan_of records_in
     looks = rw (begun_sound text (length table) count h f) (ap (λ (t : Taken). planned t room) (looked_take begins table count count (omega arith)))
 
     answers : written text table count room
@@ -137,33 +140,34 @@ module _ (text : List ℕ) (table : List Record) (count room : ℕ) where
     unfolding after_run
     halted a =
         inl (record {
-          number = ends.checked.number;
-          place = ends.checked.place;
-          refusal = a.number;
-          plan = looks ∙ planned_not ends room a.number;
+          why = a.why;
+          plan = looks ∙ planned_not ends room a.why a.refused;
           answer = answers ∙ rw (a.stopped, after_run);
         })
 
     module _ (g : Going rs (16 + length text) count ends) where
+      abbrev x : Checked
+      x = g.so_far
+
       few : count ≤ 16
       few = at_most_sixteen _ count g.channels
 
       -- the edition of the first is that of the plan; where there is none, it is the first edition
-      edition : ends.checked.edition ≡ first_edition rs
-      unfolding taken_at first_edition form_edition
-      edition = go count g.edition
+      edition : x.edition ≡ first_edition rs
+      unfolding taken_at first_edition form_edition edition_in
+      edition = go count g.accepted g.edition
         where
-          go : (m : ℕ) → ((m ≡ 0 → ⊥) → (taken_at begins (take m table) m).checked.edition ≡ first_edition (take m table)) → (taken_at begins (take m table) m).checked.edition ≡ first_edition (take m table)
-          go zero h = refl
-          go (suc m) h = h (λ z. omega arith)
+          go : (m : ℕ) → (taken_at begins (take m table) m).checked ≡ Ok x → ((m ≡ 0 → ⊥) → x.edition ≡ first_edition (take m table)) → x.edition ≡ first_edition (take m table)
+          go zero e h = ap edition_in (sym e)
+          go (suc m) e h = h (λ z. omega arith)
 
-      editions : OneEdition ends.checked.edition table count
+      editions : OneEdition x.edition table count
       editions i l = edition ∙ (g.editions i l ∙ ap edition_of (get_or-take count table i blank l))
 
       ended : run (record_turn rs) 0 (length rs) ≡ Ended count
       ended = g.rest ∙ run_end (record_turn rs) count (length rs) long
 
-      wrong : ltb ends.checked.seconds ends.checked.reach ≡ wrong_positions rs
+      wrong : ltb x.seconds x.reach ≡ wrong_positions rs
       wrong = down_wrong rs count _ _ _ long few g.down
 
       -- positions are wrong
@@ -171,45 +175,44 @@ module _ (text : List ℕ) (table : List Record) (count room : ℕ) where
       unfolding after_run
       misplaced e =
           inl (record {
-            number = 18;
-            place = 0;
-            refusal = omega arith;
-            plan = looks ∙ planned_wrong ends room g.number (ltb-true _ _ (wrong ∙ e));
+            why = _;
+            plan = looks ∙ planned_wrong ends room x g.accepted (ltb-true _ _ (wrong ∙ e));
             answer = answers ∙ rw (ended, after_run) (rw e);
           })
 
       -- they are right
       module _ (e : wrong_positions rs ≡ false) where
-        right : ends.checked.reach ≤ ends.checked.seconds
+        right : x.reach ≤ x.seconds
         right = ltb-false _ _ (wrong ∙ e)
 
-        down : cntts_down ends.cntts ends.checked.seconds ≡ cntts_bytes rs
+        down : cntts_down ends.cntts x.seconds ≡ cntts_bytes rs
         down = down_is rs count _ _ _ long few g.down e
 
-        size : ends.checked.length ≡ length (group_bytes (group_from text table count))
+        size : x.length ≡ length (group_bytes (group_from text table count))
         size =
             let whole = rw long at (group_length text (first_edition rs) rs (λ i l. g.editions i (omega (arith, long)))) in
-            omega (arith, g.size, whole, ap length down, cntts_length ends.cntts ends.checked.seconds)
+            omega (arith, g.size, whole, ap length down, cntts_length ends.cntts x.seconds)
+
+        plan_with : ℕ → ℕ → Plans
+        plan_with m l = Ok (record { records = m; edition = x.edition; length = l; seconds = x.seconds; cntts = ends.cntts })
 
         placed : Says (plan_of text table count room)
-        unfolding after_run
+        unfolding after_run plan_with
         placed = go (dec_lt room (length (group_bytes (group_from text table count))))
           where
             go : Dec (room < length (group_bytes (group_from text table count))) → Says (plan_of text table count room)
             go (yes l) =
                 inl (record {
-                  number = 14;
-                  place = 0;
-                  refusal = omega arith;
-                  plan = looks ∙ planned_short ends room g.number right (rw size l);
+                  why = _;
+                  plan = looks ∙ planned_short ends room x g.accepted right (rw size l);
                   answer = answers ∙ rw (ended, after_run) (rw (e, lt-ltb room (length (group_bytes (group_from text table count))) l));
                 })
             go (no l) =
                 let fits : length (group_bytes (group_from text table count)) ≤ room = omega arith in
                 inr (record {
-                  plan = looks ∙ (planned_fits ends room g.number right (rw size fits) ∙ rw (g.records ∙ long, size));
-                  edition = ends.checked.edition;
-                  seconds = ends.checked.seconds;
+                  plan = looks ∙ (planned_fits ends room x g.accepted right (rw size fits) ∙ ap₂ (λ (m l : ℕ). plan_with m l) (g.records ∙ long) size);
+                  edition = x.edition;
+                  seconds = x.seconds;
                   cntts = ends.cntts;
                   within = h;
                   editions = editions;
@@ -229,7 +232,8 @@ module _ (text : List ℕ) (table : List Record) (count room : ℕ) where
     starts : Going rs (16 + length text) 0 begins
     starts =
         record {
-          number = refl;
+          so_far = _;
+          accepted = refl;
           records = sym long;
           edition = λ z. absurd (z refl);
           editions = λ j l. absurd (omega arith);

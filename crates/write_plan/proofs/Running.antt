@@ -13,10 +13,9 @@ use lib.ListN.{length, get_or}
 use borrow.Author.Tests.{eqb-false, ltb-false, lt-ltb, le-ltb}
 use Rattle.layout.specs.declared.edition.Edition.{Edition}
 use Rattle.layout.specs.declared.record.Record.{Record}
-use Rattle.layout.specs.declared.turn.Turn.{Turn}
-use Rattle.layout.specs.declared.turn.Turn.TheVariants.{Refused, More}
-use Rattle.layout.specs.declared.turn.Run.TheVariants.{Stopped}
-use Rattle.layout.specs.Scan.{first, run}
+use Rattle.std.specs.Prelude.{Ok, Err}
+use Rattle.layout.specs.declared.turn.Refusal.{Refusal}
+use Rattle.layout.specs.Scan.{Turn, Refused, More, first, run}
 use Rattle.layout.specs.Plays.{bit}
 use Rattle.layout.specs.Editions.{size, held, alike}
 use Rattle.layout.specs.Records.{blank, channel_of, edition_of, second_in, position_in, first_bad}
@@ -28,7 +27,7 @@ use Rattle.layout.proofs.Records.{second_good}
 use Rattle.layout.proofs.Sixteen.{Channels, one_more}
 use Rattle.write_plan.specs.declared.Checked.{Checked}
 use Rattle.write_plan.specs.declared.Taken.{Taken}
-use Rattle.write_plan.specs.Checking.{refused_at, due, chunks_size, claimed, larger, looked, taken, taken_at}
+use Rattle.write_plan.specs.Checking.{Looks, refused_at, due, chunks_size, claimed, larger, looked, taken, taken_at}
 use Rattle.write_plan.proofs.Seen.{Seen, seen_next}
 use Rattle.write_plan.proofs.Slots.{Down, down_step}
 use Rattle.write_plan.proofs.Looking.{channel_low, due_first, due_later, looked_stays, looked_unlike, looked_bad, looked_again, looked_on, after_on}
@@ -82,27 +81,29 @@ module _ (rs : List Record) where
 
   -- no refusal yet
   pub record Going (start i : ℕ) (t : Taken) : Type 0 where
-    pub number : t.checked.number ≡ 0
-    pub records : t.checked.records ≡ n
-    pub edition : (i ≡ 0 → ⊥) → t.checked.edition ≡ first_edition rs
+    pub so_far : Checked
+    pub accepted : t.checked ≡ Ok so_far
+    pub records : so_far.records ≡ n
+    pub edition : (i ≡ 0 → ⊥) → so_far.edition ≡ first_edition rs
     pub editions : (j : ℕ) → j < i → first_edition rs ≡ edition_of (get_or rs j blank)
-    pub seen : Seen chan i t.checked.seen
+    pub seen : Seen chan i so_far.seen
     pub channels : Channels chan i
-    pub down : Down rs i t.checked.seconds t.checked.reach t.cntts
-    pub size : t.checked.length ≡ start + (8 + size (first_edition rs)) * i + 10 * t.checked.seconds
+    pub down : Down rs i so_far.seconds so_far.reach t.cntts
+    pub size : so_far.length ≡ start + (8 + size (first_edition rs)) * i + 10 * so_far.seconds
     pub rest : run turn 0 n ≡ run turn i n
 
   -- a refusal, which is the run's
-  pub record Halted (x : Checked) : Type 0 where
-    pub number : x.number ≡ 0 → ⊥
-    pub stopped : run turn 0 n ≡ Stopped x.number x.place
+  pub record Halted (x : Looks) : Type 0 where
+    pub why : Refusal
+    pub refused : x ≡ Err why
+    pub stopped : run turn 0 n ≡ Err why
 
-  stays : (c : List ℕ) (x : Checked) (i : ℕ) (r : Record) → Halted x → Halted (looked c x i r)
-  stays c x i r h = rw (looked_stays c x i r h.number) h
+  stays : (c : List ℕ) (x : Looks) (i : ℕ) (r : Record) → Halted x → Halted (looked c x i r)
+  stays c x i r h = record { why = h.why; refused = looked_stays c x i r h.why h.refused; stopped = h.stopped }
 
   module _ (start i : ℕ) (t : Taken) (l : i < n) (g : Going start i t) where
     abbrev x : Checked
-    x = t.checked
+    x = g.so_far
 
     abbrev c : List ℕ
     c = t.cntts
@@ -110,9 +111,8 @@ module _ (rs : List Record) where
     abbrev here : Record
     here = get_or rs i blank
 
-    refused : (number place : ℕ) → (number ≡ 0 → ⊥) → turn i ≡ Refused number place → looked c x i here ≡ refused_at number place → Halted (looked c x i here)
-    unfolding refused_at
-    refused number place z s e = rw e (record { number = z; stopped = g.rest ∙ run_stop turn i n number place l s })
+    refused : (number place : ℕ) → turn i ≡ Refused number place → looked c t.checked i here ≡ refused_at number place → Halted (looked c t.checked i here)
+    refused number place s e = record { why = record { number = number; place = place }; refused = e; stopped = g.rest ∙ run_stop turn i n number place l s }
 
     -- the edition that is due is the first's
     due_is : f rs i ≡ due i x.edition (edition_of here)
@@ -123,31 +123,32 @@ module _ (rs : List Record) where
         go (yes a) = sym (g.edition (λ z. omega arith)) ∙ due_later i x.edition (edition_of here) (λ z. omega arith)
         go (no a) = let z : 0 ≡ i = omega arith in ap (λ (k : ℕ). edition_of (get_or rs k blank)) z ∙ due_first i x.edition (edition_of here) (sym z)
 
-    step : Going start (i + 1) (taken t i here) ⊎ Halted (looked c x i here)
+    step : Going start (i + 1) (taken t i here) ⊎ Halted (looked c t.checked i here)
     step = go (alike (first_edition rs) (edition_of here)) (dec_lt (first_bad here) (held (edition_of here))) (bit x.seen (channel_of here)) refl refl
       where
         place : ℕ
         place = size (first_edition rs) * i
 
         go : (a : Bool) → Dec (first_bad here < held (edition_of here)) → (b : Bool) → alike (first_edition rs) (edition_of here) ≡ a → bit x.seen (channel_of here) ≡ b
-            → Going start (i + 1) (taken t i here) ⊎ Halted (looked c x i here)
-        go false d b w e = inr (refused 21 place (omega arith) (turn_unlike rs i w) (looked_unlike c x i here g.number (edition_of here) (first_edition rs) refl due_is place refl w))
+            → Going start (i + 1) (taken t i here) ⊎ Halted (looked c t.checked i here)
+        go false d b w e = inr (refused 21 place (turn_unlike rs i w) (looked_unlike c t.checked i here x g.accepted (edition_of here) (first_edition rs) refl due_is place refl w))
         go true (yes a) b w e =
-            inr (refused 9 (place + first_bad here) (omega arith) (turn_bad rs i w a) (looked_bad c x i here g.number (edition_of here) (first_edition rs) refl due_is place refl w (first_bad here) refl a))
+            inr (refused 9 (place + first_bad here) (turn_bad rs i w a) (looked_bad c t.checked i here x g.accepted (edition_of here) (first_edition rs) refl due_is place refl w (first_bad here) refl a))
         go true (no a) true w e =
             let h : held (edition_of here) ≤ first_bad here = omega arith in
             let again = sym (g.seen.each (channel_of here) (channel_low here (first_bad here) refl h)) ∙ e in
-            inr (refused 10 place (omega arith) (turn_again rs i w h again) (looked_again c x i here g.number (edition_of here) (first_edition rs) refl due_is place refl w (first_bad here) refl h e))
+            inr (refused 10 place (turn_again rs i w h again) (looked_again c t.checked i here x g.accepted (edition_of here) (first_edition rs) refl due_is place refl w (first_bad here) refl h e))
         go true (no a) false w e =
             let h : held (edition_of here) ≤ first_bad here = omega arith in
             let low = channel_low here (first_bad here) refl h in
             let fresh = sym (g.seen.each (channel_of here) low) ∙ e in
             let apart : (j : ℕ) → j < i → chan j ≡ chan i → ⊥ = λ j k. eqb-false (chan j) (chan i) (first_passed (λ m. eqb (chan m) (chan i)) i j (omega (arith, ltb-false (first (λ m. eqb (chan m) (chan i)) 0 i) i fresh))) in
             let on =
-            looked_on c x i here g.number (edition_of here) (first_edition rs) refl due_is place refl w (first_bad here) refl h e (bit_or x.seen (2 ^ channel_of here)) refl (second_in here) refl (position_in here) refl
+            looked_on c t.checked i here x g.accepted (edition_of here) (first_edition rs) refl due_is place refl w (first_bad here) refl h e (bit_or x.seen (2 ^ channel_of here)) refl (second_in here) refl (position_in here) refl
             (cntt_count (second_in here)) refl (chunks_size (first_edition rs) (cntt_count (second_in here))) refl (larger x.reach (claimed c (position_in here) (second_in here))) refl in
-            inl (rw (← (after_on c x i here _ on refl (second_in here) refl (position_in here) refl _ refl), on) (record {
-              number = refl;
+            inl (rw (← (after_on c t.checked i here _ on (second_in here) refl (position_in here) refl _ refl), on) (record {
+              so_far = _;
+              accepted = refl;
               records = g.records;
               edition = λ z. refl;
               editions = λ j l. same j l (dec_lt j i) (alike_is (first_edition rs) (edition_of here) w);

@@ -14,8 +14,8 @@ use lib.ListN.{length, get_or, take, set, length-set, get_or-replicate}
 use lib.Seq.{take-suc, take_all, get_or-set_same, get_or-set_other, lt-length-set}
 use borrow.Author.Tests.{lt-ltb, le-ltb, eq-eqb, ne_eqb, eqb-true, eqb-false, ltb-false}
 use Rattle.layout.specs.declared.record.Record.{Record}
-use Rattle.layout.specs.declared.record.SecondTable.{SecondTable}
-use Rattle.layout.specs.declared.record.SecondTable.TheVariants.{Absent, Value}
+use Rattle.layout.specs.Records.{SecondTable}
+use Rattle.layout.specs.Records.{Absent, Value}
 use Rattle.layout.specs.Scan.{first_of, first}
 use Rattle.layout.specs.Bytes.{Cntt, chunk}
 use Rattle.layout.specs.Ranges.{inside, cntt_value}
@@ -27,6 +27,7 @@ use Rattle.write_plan.specs.Checking.{no_cntts, free, laid_down, claimed, larger
 use Rattle.write_plan.specs.Chunks.{cntt_down, cntts_down}
 use Rattle.write_plan.proofs.Seen.{found_next}
 use Rattle.write_plan.proofs.Down.{free_none, free_over, free_there, free_is, below_larger, cntts_alike}
+use Rattle.std.specs.Prelude.{None, Some}
 
 or_none : (b : Bool) → b || false ≡ b
 or_none true = refl
@@ -116,12 +117,12 @@ module _ (rs : List Record) (i seconds reach : ℕ) (c : List ℕ) (d : Down rs 
   -- what it claims is more than there are exactly where its position is wrong
   claims : (m : ℕ) → m ≤ 16 → (s : SecondTable) → second_in r ≡ s → ltb m (claimed c q s) ≡ wrong_among rs m i
   unfolding claimed cntt_count
-  claims m l Absent e = rw e (go (dec_lt 0 q))
+  claims m l None e = rw e (go (dec_lt 0 q))
     where
       go : Dec (0 < q) → ltb m (cond (eqb q 0) 0 17) ≡ ltb 0 q
       go (yes a) = rw (ne_eqb q 0 (λ z. omega arith), lt-ltb 0 q a) (lt-ltb m 17 (omega arith))
       go (no a) = rw (eq-eqb q 0 (omega arith), le-ltb 0 q (omega arith)) (le-ltb m 0 (omega arith))
-  claims m l (Value v) e = rw e (go (dec_lt 0 q) (dec_lt 16 q))
+  claims m l (Some v) e = rw e (go (dec_lt 0 q) (dec_lt 16 q))
     where
       slot : Slot rs i c q → 0 < q → q ≤ 16 → ltb m (cond (free c q) q 17) ≡ eqb q 0 || (ltb m q || ltb (at_position rs i q) i)
       slot (inl s) a b = rw (free_there c q a b, eq-eqb _ 0 s.zeros, ne_eqb q 0 (λ z. omega arith), le-ltb (at_position rs i q) i (omega (arith, s.none))) (sym (or_none (ltb m q)))
@@ -188,8 +189,8 @@ module _ (rs : List Record) (i seconds reach : ℕ) (c : List ℕ) (d : Down rs 
 
   laid : (s : SecondTable) → second_in r ≡ s → bad_second s ≡ false → (length (laid_down c q (channel_of r) s) ≡ 32) × ((p : ℕ) → 0 < p → p ≤ 16 → Slot rs (i + 1) (laid_down c q (channel_of r) s) p)
   unfolding laid_down
-  laid Absent e good = (d.long, λ p a b. without p a b e)
-  laid (Value v) e good = go (free c q) refl
+  laid None e good = (d.long, λ p a b. without p a b e)
+  laid (Some v) e good = go (free c q) refl
     where
       go : (t : Bool) → free c q ≡ t → (length (cond t (after v) c) ≡ 32) × ((p : ℕ) → 0 < p → p ≤ 16 → Slot rs (i + 1) (cond t (after v) c) p)
       go false f = (d.long, λ p a b. stays p a b v e f)

@@ -5,7 +5,7 @@ ghost use Rattle.std.specs.Prelude.{◌≡◌, ◌+◌, ◌*◌, ◌≤◌, ◌<
 ghost use Rattle.layout.specs.Editions.{size, held};
 ghost use Rattle.layout.specs.Records.{record_of};
 ghost use Rattle.layout.specs.Write.{cntt_count};
-ghost use Rattle.write_plan.specs.Checking.{refused_at, first_checked, begun, due, chunks_size, second_by, position_by, records_never, free, laid_down, claimed, larger, Looking, looked, laid_after, taken, no_plan, planned, measured_by};
+ghost use Rattle.write_plan.specs.Checking.{first_checked, begun, due, chunks_size, first_only, records_never, free, laid_down, claimed, Looking, looked, laid_after, taken, planned, measured_by};
 
 use layout::answer::Measured;
 use layout::edition::Edition;
@@ -15,17 +15,16 @@ use layout::refusal::{
     BAD_NUMBER, BAD_POSITIONS, BAD_TEXT, CHANNEL_AGAIN, NO_ROOM, OTHER_EDITION, OUT_OF_RANGE,
 };
 use layout::size::{CNTT_BYTES, CNTT_STRIDE, HEADERS, RECORD, SECOND_RECORD};
+use layout::turn::Refusal;
 use read_record::bytes::bytes_of;
-use read_record::edition::{held_of, is_alike, size_of};
+use read_record::edition::{held_of, size_of};
 use read_record::held::{edition_of, first_bad_of, position_of, second_of};
 
-// What the records looked at so far come to: a refusal, or how many are to be looked at in all, the edition of the first, the group's length with those seen,
+// What the records looked at so far come to, where none is refused: how many are to be looked at in all, the edition of the first, the group's length with those seen,
 // which source channels they have (bit k of `seen` is set where one has channel k), how many of them have a Cntt,
 // and how many Cntts there must be for their positions to be right.
 #[derive(Clone, Copy)]
 pub struct Checked {
-    pub number: u8,
-    pub place: usize,
     pub records: usize,
     pub edition: Edition,
     pub length: usize,
@@ -34,18 +33,20 @@ pub struct Checked {
     pub reach: usize,
 }
 
+// That, or the refusal.
+pub type Looked = Result<Checked, Refusal>;
+
 // That, and their Cntts laid down: the channel of the one at position p, from 1, at 2 * p - 2, and its value behind it.
+// An array and no Vec: the library has no heap, and positions are taken in any order, so that no length goes beside it until all are looked at.
 #[derive(Clone, Copy)]
 pub struct Taken {
-    pub checked: Checked,
+    pub checked: Looked,
     pub cntts: [u8; 32],
 }
 
-// What writing comes to: the refusal, or how many records of one edition go into a group of so many bytes, and its Cntts, laid down.
+// What writing comes to: how many records of one edition go into a group of so many bytes, and its Cntts, laid down.
 #[derive(Clone, Copy)]
 pub struct Plan {
-    pub number: u8,
-    pub place: usize,
     pub records: usize,
     pub edition: Edition,
     pub length: usize,
@@ -53,41 +54,33 @@ pub struct Plan {
     pub cntts: [u8; 32],
 }
 
-fn refused_at(number: u8, place: usize) -> Checked
-    ensures { result ≡ refused_at number place }
-{
-    Checked {
-        number: number,
-        place: place,
-        records: 0,
-        edition: Edition::First,
-        length: 0,
-        seen: 0,
-        seconds: 0,
-        reach: 0,
-    }
-}
+// .. or the refusal.
+pub type Planned = Result<Plan, Refusal>;
 
 // Before the first record: 16 where the count exceeds the lent table, then 8.
-fn first_checked(text: &[u8], lent: usize, count: usize) -> Checked
+fn first_checked(text: &[u8], lent: usize, count: usize) -> Looked
     ensures { result ≡ first_checked text.now lent count }
 {
     if lent < count {
-        return refused_at(BAD_NUMBER, 0);
+        return Err(Refusal {
+            number: BAD_NUMBER,
+            place: 0,
+        });
     }
     if !read_names::is_sound_text(text) {
-        return refused_at(BAD_TEXT, 0);
+        return Err(Refusal {
+            number: BAD_TEXT,
+            place: 0,
+        });
     }
-    Checked {
-        number: 0,
-        place: 0,
+    Ok(Checked {
         records: count,
         edition: Edition::First,
         length: HEADERS + text.len(),
         seen: 0,
         seconds: 0,
         reach: 0,
-    }
+    })
 }
 
 // .. with no Cntt laid down.
@@ -96,7 +89,7 @@ pub fn begin(text: &[u8], lent: usize, count: usize) -> Taken
 {
     let checked = first_checked(text, lent, count);
     Taken {
-        checked: checked,
+        checked,
         cntts: [0; 32],
     }
 }
@@ -130,22 +123,13 @@ fn chunks_size(edition: Edition, cntts: usize) -> usize
     8 + size_of(edition) + CNTT_STRIDE * cntts
 }
 
-// The second table that a record of an edition has of the one given, and the position: a Ctb2 has none.
-fn second_by(edition: Edition, second: SecondTable) -> SecondTable
-    ensures { result ≡ second_by edition second }
+// What a record of an edition has of a second table or a position given: a Ctb2 has none.
+fn first_only<T: Copy>(edition: Edition, given: T, none: T) -> T
+    ensures { result ≡ first_only edition given none }
 {
     match edition {
-        Edition::First => second,
-        Edition::Second => SecondTable::Absent,
-    }
-}
-
-fn position_by(edition: Edition, position: u8) -> u8
-    ensures { result ≡ position_by edition position }
-{
-    match edition {
-        Edition::First => position,
-        Edition::Second => 0,
+        Edition::First => given,
+        Edition::Second => none,
     }
 }
 
@@ -154,8 +138,8 @@ fn cntt_count(second: SecondTable) -> usize
     ensures { result ≡ cntt_count second }
 {
     match second {
-        SecondTable::Absent => 0,
-        SecondTable::Value(_) => 1,
+        None => 0,
+        Some(_) => 1,
     }
 }
 
@@ -181,13 +165,13 @@ fn lay_down(cntts: &mut [u8; 32], position: usize, channel: u8, second: SecondTa
     ensures { (result ≡ claimed cntts.old position second) × (cntts.new ≡ laid_down cntts.old position channel second) }
 {
     match second {
-        SecondTable::Absent => {
+        None => {
             if position == 0 {
                 return 0;
             }
             NEVER
         }
-        SecondTable::Value(v) => {
+        Some(v) => {
             if !is_free(cntts, position) {
                 return NEVER;
             }
@@ -199,81 +183,75 @@ fn lay_down(cntts: &mut [u8; 32], position: usize, channel: u8, second: SecondTa
     }
 }
 
-// The larger of two numbers.
-fn larger_of(a: usize, b: usize) -> usize
-    ensures { result ≡ larger a b }
-{
-    if a < b {
-        return b;
-    }
-    a
-}
-
 // Record number i, of an edition, whose bytes stand at the start of b: another edition than the first's, its first byte out of range, then a source channel that an earlier record has.
 // Where it is accepted, its Cntt is laid down at its position. A refusal stays.
 fn look_at_known(
-    x: Checked,
+    before: Looked,
     i: usize,
     edition: Edition,
     b: &[u8],
     second: SecondTable,
     position: u8,
     cntts: &mut [u8; 32],
-) -> Checked
-    requires { (held edition ≤ length b.now) × Looking x i }
-    ensures { (result ≡ looked cntts.old x i (record_of edition b.now second position)) × (cntts.new ≡ laid_after cntts.old x i (record_of edition b.now second position)) }
+) -> Looked
+    requires { (held edition ≤ length b.now) × Looking before i }
+    ensures { (result ≡ looked cntts.old before i (record_of edition b.now second position)) × (cntts.new ≡ laid_after cntts.old before i (record_of edition b.now second position)) }
 {
-    if x.number != 0 {
-        return x;
-    }
-    let first = x.edition;
-    let due = edition_due(i, first, edition);
+    let x = before?;
+    let due = edition_due(i, x.edition, edition);
     let place = place_of(due, i);
-    if !is_alike(due, edition) {
-        return refused_at(OTHER_EDITION, place);
+    if due != edition {
+        return Err(Refusal {
+            number: OTHER_EDITION,
+            place,
+        });
     }
     let k = first_bad_of(edition, b, second);
     if k < held_of(edition) {
-        return refused_at(OUT_OF_RANGE, place + k);
+        return Err(Refusal {
+            number: OUT_OF_RANGE,
+            place: place + k,
+        });
     }
     let channel = b[0] as usize;
     if (x.seen >> channel) % 2 == 1 {
-        return refused_at(CHANNEL_AGAIN, place);
+        return Err(Refusal {
+            number: CHANNEL_AGAIN,
+            place,
+        });
     }
-    let own = second_by(edition, second);
+    let own = first_only(edition, second, None);
     let count = cntt_count(own);
-    let at = position_by(edition, position);
+    let at = first_only(edition, position, 0);
     let claim = lay_down(cntts, at as usize, b[0], own);
-    Checked {
-        number: 0,
-        place: 0,
+    Ok(Checked {
         records: x.records,
         edition: due,
         length: x.length + chunks_size(due, count),
         seen: x.seen | 1u64 << channel,
         seconds: x.seconds + count,
-        reach: larger_of(x.reach, claim),
-    }
+        reach: x.reach.max(claim),
+    })
 }
 
 // The same, the edition told apart here, so that what goes by it is a number for either; a Ctb2 has no Cntt.
+// A record is handed over by its parts, and not as a struct of them: only this and the one above take them, and their callers have them apart.
+// `Looking` stays a condition: it speaks of the number of the record too, which is no part of what the records before it come to.
 pub fn look_at_bytes(
-    x: Checked,
+    before: Looked,
     i: usize,
     edition: Edition,
     b: &[u8],
     second: SecondTable,
     position: u8,
     cntts: &mut [u8; 32],
-) -> Checked
-    requires { (held edition ≤ length b.now) × Looking x i }
-    ensures { (result ≡ looked cntts.old x i (record_of edition b.now second position)) × (cntts.new ≡ laid_after cntts.old x i (record_of edition b.now second position)) }
+) -> Looked
+    requires { (held edition ≤ length b.now) × Looking before i }
+    ensures { (result ≡ looked cntts.old before i (record_of edition b.now second position)) × (cntts.new ≡ laid_after cntts.old before i (record_of edition b.now second position)) }
 {
     match edition {
-        Edition::First => { look_at_known(x, i, Edition::First, b, second, position, cntts) }
-        Edition::Second => {
-            look_at_known(x, i, Edition::Second, b, SecondTable::Absent, 0, cntts)
-        }
+        Edition::First => { look_at_known(before, i, Edition::First, b, second, position, cntts) }
+        Edition::Second => { look_at_known(before, i, Edition::Second, b, None, 0, cntts) }
     }
 }
 
@@ -291,59 +269,51 @@ pub fn look_at(x: Taken, i: usize, r: Record) -> Taken
     let after = look_at_bytes(before, i, edition, &b, second, position, &mut cntts);
     Taken {
         checked: after,
-        cntts: cntts,
-    }
-}
-
-// A plan that refuses.
-pub fn no_plan(number: u8, place: usize) -> Plan
-    ensures { result ≡ no_plan number place }
-{
-    Plan {
-        number: number,
-        place: place,
-        records: 0,
-        edition: Edition::First,
-        length: 0,
-        seconds: 0,
-        cntts: [0; 32],
+        cntts,
     }
 }
 
 // All records looked at: 18 where a position asks for more Cntts than there are, then 14 where the room is smaller than the group.
-pub fn plan_for(x: Taken, room: usize) -> Plan
+pub fn plan_for(x: Taken, room: usize) -> Planned
     ensures { result ≡ planned x room }
 {
-    let c = x.checked;
+    let c = x.checked?;
     let cntts = x.cntts;
-    let edition = c.edition;
-    if c.number != 0 {
-        return no_plan(c.number, c.place);
-    }
     if c.seconds < c.reach {
-        return no_plan(BAD_POSITIONS, 0);
+        return Err(Refusal {
+            number: BAD_POSITIONS,
+            place: 0,
+        });
     }
     if room < c.length {
-        return no_plan(NO_ROOM, 0);
+        return Err(Refusal {
+            number: NO_ROOM,
+            place: 0,
+        });
     }
-    Plan {
-        number: 0,
-        place: 0,
+    Ok(Plan {
         records: c.records,
-        edition: edition,
+        edition: c.edition,
         length: c.length,
         seconds: c.seconds,
-        cntts: cntts,
-    }
+        cntts,
+    })
 }
 
 // The answer of a plan.
-pub fn measured(p: Plan) -> Measured
+pub fn measured(p: Planned) -> Measured
     ensures { result ≡ measured_by p }
 {
-    Measured {
-        number: p.number,
-        place: p.place,
-        length: p.length,
+    match p {
+        Ok(plan) => Measured {
+            number: 0,
+            place: 0,
+            length: plan.length,
+        },
+        Err(why) => Measured {
+            number: why.number,
+            place: why.place,
+            length: 0,
+        },
     }
 }

@@ -1,4 +1,5 @@
 // Passes over a lent table of records: what writing them comes to, and their Ctabs one after the other (document 01, "Writing and editing").
+// The loops of `c_write` over rows stay beside these: a generic one over where a record comes from would make a record of each row, which was slower (docs/SPEED.md).
 ghost use Rattle.std.specs.Prelude.{◌≡◌, ◌≤◌, length, take};
 ghost use mathlib.Core.List.{flat_map};
 ghost use Rattle.layout.specs.Edit.{replaced};
@@ -8,14 +9,14 @@ ghost use Rattle.write_plan.specs.Checking.{OneEdition, plan_of};
 
 use layout::record::Record;
 use write_chunks::places::put_record;
-use write_plan::{Plan, begin, look_at, plan_for};
+use write_plan::{Planned, begin, look_at, plan_for};
 
 // What writing a text and the first records of a lent table comes to: each record is looked at once.
-pub fn plan_group(text: &[u8], table: &[Record], count: usize, room: usize) -> Plan
+pub fn plan_group(text: &[u8], table: &[Record], count: usize, room: usize) -> Planned
     ensures { result ≡ plan_of text.now table.now count room }
 {
     let mut x = begin(text, table.len(), count);
-    let n = x.checked.records;
+    let n = x.checked?.records;
     for i in 0..n {
         let r = table[i];
         x = look_at(x, i, r);

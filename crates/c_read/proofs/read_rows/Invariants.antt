@@ -1,4 +1,4 @@
-use Prim.Native.Nat.{◌-◌, ◌≤◌}
+use Prim.Native.Nat.{◌≤◌}
 use mathlib.Core.Path.{◌≡◌}
 use lib.ListN.{length}
 use Rattle.read_table.specs.Reading.{planned_record}
@@ -6,7 +6,4 @@ use Rattle.c_read.proofs.RowsRead.{laid_from}
 use Rattle.c_read.proofs.read_rows.Given as goal
 
 abbrev pub invariant-loop-i : goal.invariant-loop-i
-invariant-loop-i l = (l.i ≤ l.n) × ((length l.flat ≡ length l.initial.flat) × (l.flat ≡ laid_from (planned_record l.s l.plan) l.n l.i l.initial.flat))
-
-abbrev pub decreases-loop-i : goal.decreases-loop-i
-decreases-loop-i l = l.n - l.i
+invariant-loop-i l = (l.i ≤ l.reading.count) × ((length l.flat ≡ length l.initial.flat) × (l.flat ≡ laid_from (planned_record l.s l.reading) l.reading.count l.i l.initial.flat))

@@ -1,5 +1,4 @@
 -- After i turns the Ctabs of the first i records stand in the buffer; i goes up to n.
-use Prim.Native.Nat.{◌-◌}
 use Rattle.write_chunks.proofs.Putting.{putting_end, ctabs_start}
 use Rattle.c_write.proofs.Taking.{taking_on, taking_next, row_there}
 use borrow.Author.Rules.{rules}

@@ -1,5 +1,5 @@
 -- After k turns the lines of the first k entries stand in the buffer; each line has room because all have.
-use Rattle.list_text.proofs.Entries.{told_start, told_length, told_room, told_next, told_end}
+use Rattle.list_text.proofs.Entries.{told_start, told_room, told_next}
 use Rattle.list_text.proofs.put_entries.Goals as goal
 
 pub loop-k-init : goal.loop-k-init
@@ -11,9 +11,3 @@ put_entry-behind-requires c = told_room c.args.list.now c.args.n _ _ c.requires.
 pub loop-k-preserved : goal.loop-k-preserved
 loop-k-preserved c =
     told_next c.args.list.now c.args.n _ _ c.requires.1 _ _ _ c.loop-k.invariant _ _ c.loop-k-test.true c.put_entry-behind.ensures
-
-pub shape_of-out : goal.shape_of-out
-shape_of-out c = told_length c.args.list.now c.args.n _ _ c.requires.1 _ _ _ c.loop-k.invariant
-
-pub returns : goal.returns
-returns c = told_end c.args.list.now c.args.n _ _ c.requires.1 _ _ _ c.loop-k.invariant c.loop-k-test.false

@@ -1,24 +1,18 @@
 -- The body read once; then the texts of its groups are asked, where they lie.
-use mathlib.Core.Path.{sym, ◌∙◌}
+use Prim.Native.Nat.{ℕ}
+use mathlib.Core.Path.{sym, ap, ◌∙◌}
+use Rattle.std.proofs.lemmas.Result.{err_from_is_err_and}
+use Rattle.read_find.specs.Find.{numbered}
 use Rattle.read_find.proofs.FindLaws.{part_refused, part_asked}
 use Rattle.read_find.proofs.locate_part.Goals as goal
 
-pub group_named-k-requires : goal.group_named-k-requires
-group_named-k-requires c =
-    let r = c in
-    let k = r.read_groups-read.ensures.known _ r.in-Ended.is in
-    (k.0, k.1.0)
+pub returns-in_err-n : goal.returns-in_err-n
+returns-in_err-n c =
+    let p = err_from_is_err_and c.from_residual.result c.from_residual.ensures.1 in
+    rw (p.1, p.2) (sym (part_refused _ _ (sym c.read_groups.ensures.run ∙ c.in_err-n.was) _))
 
-pub group_numbered-requires : goal.group_numbered-requires
-group_numbered-requires c =
-    let r = c in
-    r.read_groups-read.ensures.known _ r.in-Ended.is
-
-pub returns-in-Stopped : goal.returns-in-Stopped
-returns-in-Stopped c = sym (part_refused _ _ _ (sym c.read_groups-read.ensures.run ∙ c.in-Stopped.is) _)
-
-pub returns-in-Ended : goal.returns-in-Ended
-returns-in-Ended c =
-    let g = c in
-    let r = g in
-    c.group_numbered.ensures ∙ sym (part_asked _ _ (sym r.read_groups-read.ensures.run ∙ r.in-Ended.is) _ _ g.group_named-k.ensures)
+pub returns : goal.returns
+returns c =
+    let r = c.read_groups.ensures in
+    let known = r.known _ c.in_ok-n.was in
+    c.group_numbered.ensures ∙ (ap (λ (n : ℕ). numbered c.args.s.now n c.group_named-k.result) known.count ∙ sym (part_asked _ _ (sym r.run ∙ c.in_ok-n.was) _ _ c.group_named-k.ensures))

@@ -24,8 +24,7 @@ word_at-length-requires c = omega (arith, within _ c.requires)
 
 pub returns-then-length-eq0 : goal.returns-then-length-eq0
 returns-then-length-eq0 c =
-    let d = c in
-    sym (group_empty _ _ (headed _ d.requires) refl _ d.word_at-length.ensures.0 c.if-length-eq0.true)
+    sym (group_empty _ _ (headed _ c.requires) refl _ c.word_at-length.ensures.0 c.if-length-eq0.true)
 
 pub slice_bounds-judge_contents-count : goal.slice_bounds-judge_contents-count
 slice_bounds-judge_contents-count c = omega (arith, within _ c.requires)
@@ -35,25 +34,19 @@ slice_bounds-judge_contents-start c = omega (arith, within _ c.requires)
 
 pub slice_bounds-judge_contents-end : goal.slice_bounds-judge_contents-end
 slice_bounds-judge_contents-end c =
-    let d = c in
-    omega (arith, within _ d.requires, d.word_at-length.ensures.0)
+    omega (arith, within _ c.requires, c.word_at-length.ensures.0)
 
 pub overflow_add-result : goal.overflow_add-result
 overflow_add-result c =
-    let j = c in
-    let is = sym j.judge_contents.ensures ∙ c.in-Unsound.is in
+    let is = sym c.judge_contents.ensures ∙ c.in-Err.is in
     omega (arith, rw (length-take, length-drop) at (contents_place _ _ _ is))
 
-pub returns-in-Unsound : goal.returns-in-Unsound
-returns-in-Unsound c =
-    let j = c in
-    let d = j in
-    let is = sym j.judge_contents.ensures ∙ c.in-Unsound.is in
-    sym (group_unsound _ _ (headed _ d.requires) refl _ d.word_at-length.ensures.0 j.if-length-eq0.false _ _ is)
+pub returns-in-Err : goal.returns-in-Err
+returns-in-Err c =
+    let is = sym c.judge_contents.ensures ∙ c.in-Err.is in
+    sym (group_unsound _ _ (headed _ c.requires) refl _ c.word_at-length.ensures.0 c.if-length-eq0.false _ _ is)
 
-pub returns-in-Sound : goal.returns-in-Sound
-returns-in-Sound c =
-    let j = c in
-    let d = j in
-    let is = sym j.judge_contents.ensures ∙ c.in-Sound.is in
-    sym (group_sound _ _ (headed _ d.requires) refl _ d.word_at-length.ensures.0 j.if-length-eq0.false _ _ _ _ is)
+pub returns-in-Ok : goal.returns-in-Ok
+returns-in-Ok c =
+    let is = sym c.judge_contents.ensures ∙ c.in-Ok.is in
+    sym (group_sound _ _ (headed _ c.requires) refl _ c.word_at-length.ensures.0 c.if-length-eq0.false _ _ _ _ is)

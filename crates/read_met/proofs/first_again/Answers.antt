@@ -12,8 +12,8 @@ returns-then-not-is_crowded c = c.again_in.ensures ∙ again_all _ _
 
 pub again_in-requires-2 : goal.again_in-requires-2
 again_in-requires-2 c =
-    let p = c.requires in
-    (omega (arith, (let within_here : c.again_in-k.result ≤ c.args.n = rw c.again_in-k.ensures (first_within _ _) in within_here)), places_fewer _ _ _ _ ((let within_here : c.again_in-k.result ≤ c.args.n = rw c.again_in-k.ensures (first_within _ _) in within_here)) p.1)
+    let within : c.again_in-k.result ≤ c.args.n = rw c.again_in-k.ensures (first_within _ _) in
+    (omega arith, places_fewer _ _ _ _ within c.requires.1)
 
 pub returns : goal.returns
 returns c = c.again_in-2.ensures ∙ again_halves _ _ _ c.again_in-k.ensures

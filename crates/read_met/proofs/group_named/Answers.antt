@@ -3,24 +3,21 @@ use mathlib.Core.Path.{sym, ◌∙◌}
 use native.Mathlib.Omega.{arith}
 use Rattle.read_met.proofs.Texts.{places_fewer}
 use Rattle.read_met.proofs.Naming.{named_start, named_here, named_next, named_none}
-use borrow.Author.Rules.{rules}
 use Rattle.read_met.proofs.group_named.Goals as goal
 
 pub loop-k-init : goal.loop-k-init
-loop-k-init c = (search rules, named_start _ _ _)
+loop-k-init c = named_start _ _ _
 
 pub text_of-requires : goal.text_of-requires
 text_of-requires c = (omega arith, places_fewer _ _ _ _ (omega arith) c.requires.1)
 
 pub returns-then-has_name : goal.returns-then-has_name
 returns-then-has_name c =
-    let t = c in
-    named_here _ _ _ _ t.loop-k.invariant.1 _ t.text_of.ensures (omega arith) (sym c.has_name.ensures ∙ c.if-has_name.true)
+    named_here _ _ _ _ c.loop-k.invariant _ c.text_of.ensures (omega arith) (sym c.has_name.ensures ∙ c.if-has_name.true)
 
 pub loop-k-preserved : goal.loop-k-preserved
 loop-k-preserved c =
-    let t = c in
-    (omega arith, named_next _ _ _ _ t.loop-k.invariant.1 _ t.text_of.ensures (omega arith) (sym c.has_name.ensures ∙ c.if-has_name.false))
+    (named_next _ _ _ _ c.loop-k.invariant _ c.text_of.ensures (omega arith) (sym c.has_name.ensures ∙ c.if-has_name.false))
 
 pub returns : goal.returns
-returns c = named_none _ _ _ _ c.loop-k.invariant.1 (omega arith)
+returns c = named_none _ _ _ _ c.loop-k.invariant (omega arith)

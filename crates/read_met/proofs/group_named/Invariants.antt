@@ -1,4 +1,3 @@
-use Prim.Native.Nat.{◌-◌, ◌≤◌}
 use mathlib.Core.Path.{◌≡◌}
 use Rattle.layout.specs.Scan.{first}
 use Rattle.layout.specs.Asked.{group_named}
@@ -6,7 +5,4 @@ use Rattle.read_met.proofs.Naming.{has_part}
 use Rattle.read_met.proofs.group_named.Given as goal
 
 abbrev pub invariant-loop-k : goal.invariant-loop-k
-invariant-loop-k l = (l.k ≤ l.n) × (group_named l.s l.n l.name ≡ first (has_part l.s l.name) l.k l.n)
-
-abbrev pub decreases-loop-k : goal.decreases-loop-k
-decreases-loop-k l = l.n - l.k
+invariant-loop-k l = group_named l.s l.n l.name ≡ first (has_part l.s l.name) l.k l.n

@@ -1,31 +1,21 @@
--- The names before i are others, so the answer is that of the names from i on.
-use native.Mathlib.Omega.{arith}
-use mathlib.Core.Path.{sym, ap, ◌∙◌}
+-- The parts that `split` gives are the names; one of them is the name, or none is.
+use mathlib.Core.Path.{◌≡◌, ◌∙◌}
 use mathlib.Core.Bool.{true, false}
 use borrow.Author.Rules.{rules}
-use Rattle.layout.specs.Lists.{has}
-use Rattle.read_names.proofs.Compare.{has_cut, has_none}
-use Rattle.read_names.proofs.Cuts.{names_start, names_end}
+use borrow.Author.Tests.{tests}
+use lib.Dec.{eqb}
+use Rattle.std.specs.Cmp.Lexicographic.{pointwise}
+use Rattle.std.proofs.lemmas.Iterator.{cases_from_any}
+use Rattle.std.proofs.lemmas.Iterator.Splits.{YieldsList-from_slice_split}
+use Rattle.read_names.proofs.Compare.{has_part, any_told}
 use Rattle.read_names.proofs.has_name.Goals as goal
-
-pub loop-i-init : goal.loop-i-init
-loop-i-init c =
-    let a = c.args in
-    (search rules, ap (λ l. has l a.name.now) (names_start a.t.now))
-
-pub returns-then-is_name : goal.returns-then-is_name
-returns-then-is_name c =
-    let l = c.loop-i in
-    let h = c.name_end-e.ensures in
-    sym (l.invariant.1 ∙ has_cut _ _ _ h.cut true _ (sym c.if-is_name.true ∙ c.is_name.ensures))
-
-pub loop-i-preserved : goal.loop-i-preserved
-loop-i-preserved c =
-    let l = c.loop-i in
-    let h = c.name_end-e.ensures in
-    (omega (arith, h.within), l.invariant.1 ∙ has_cut _ _ _ h.cut false _ (sym c.if-is_name.false ∙ c.is_name.ensures))
 
 pub returns : goal.returns
 returns c =
-    let l = c.loop-i in
-    sym (l.invariant.1 ∙ has_none _ _ (names_end _ _ (omega arith)))
+    let a = c.args in
+    let s = c.split.ensures in
+    any_told (λ x. pointwise eqb x a.name.now) _ c.any.result (
+    cases_from_any _ _ _ (λ x. pointwise eqb x a.name.now ≡ true) (λ x. pointwise eqb x a.name.now ≡ false) c.any.ensures.ran
+    (YieldsList-from_slice_split _ (λ b. eqb b 44) a.t.now s.rest s.done s.closure (λ x b q k. search (rules, tests))) (λ x q k. search (rules, tests)) (λ x q k. search (rules, tests))
+    )
+    ∙ has_part _ _

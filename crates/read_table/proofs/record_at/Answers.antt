@@ -1,4 +1,4 @@
--- The bytes held where they stand, and the Cntt that was found. From byte 0 of the record on there are as many as are held.
+-- The bytes held where they stand, and what the Cntt says. From byte 0 of the record on there are as many as are held.
 use mathlib.Core.Path.{◌∙◌}
 use native.Mathlib.Omega.{arith}
 use Rattle.read_table.proofs.Seconds.{held_within, first_within, record_here}
@@ -15,5 +15,4 @@ slice_bounds-record_of-end c = omega (arith, held_within c.args.plan.edition _ _
 
 pub returns : goal.returns
 returns c =
-    c.record_of.ensures
-    ∙ record_here _ _ _ _ _ _ _ _ _ _ _ c.ctab_place-at.ensures c.held_of.ensures c.cntt_of-j.ensures c.second_at-second.ensures c.position_at-position.ensures
+    c.record_of.ensures ∙ record_here _ _ _ _ _ _ _ _ _ _ c.ctab_place-at.ensures c.held_of.ensures c.second_of-second.ensures.second c.second_of-second.ensures.position

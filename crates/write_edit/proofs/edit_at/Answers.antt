@@ -6,6 +6,7 @@ use Rattle.layout.specs.Records.{channel_of}
 use Rattle.layout.proofs.Editions.{held_spare, size_least}
 use Rattle.layout.proofs.Records.{laid_length}
 use Rattle.write_chunks.proofs.Stored.{held_within, held_length, held_cut}
+use Rattle.read_record.proofs.Same.{unlike_told, alike_told}
 use Rattle.write_edit.proofs.Editing.{own_edition, at_other, at_unlike, at_locked, at_out, at_put}
 use borrow.Author.Rules.{rules}
 use Rattle.write_edit.proofs.edit_at.Goals as goal
@@ -14,80 +15,51 @@ pub returns-then-source-channel : goal.returns-then-source-channel
 unfolding channel_of
 returns-then-source-channel c = at_other _ _ _ _ _ _ _ c.answer.ensures c.if-source-channel.true
 
-pub returns-then-not-is_alike : goal.returns-then-not-is_alike
+pub returns-then-ne : goal.returns-then-ne
 unfolding channel_of
-returns-then-not-is_alike c =
-    let like = c in
-    at_unlike _ _ _ _ _ _ like.if-source-channel.false _ like.edition_of-own.ensures _ c.answer-then-not-is_alike.ensures (sym like.is_alike.ensures ∙ c.if-not-is_alike.true)
+returns-then-ne c =
+    at_unlike _ _ _ _ _ _ c.if-source-channel.false _ c.edition_of-own.ensures _ c.answer-then-ne.ensures (unlike_told _ _ _ c.ne.ensures c.if-ne.true)
 
 -- byte 10 is one of the record's
 pub overflow_add-lock : goal.overflow_add-lock
-overflow_add-lock c = let start = c in omega (arith, start.requires, size_least start.args.edition)
+overflow_add-lock c = let start = c in omega (arith, c.requires, size_least c.args.edition)
 
 pub bounds-s-at : goal.bounds-s-at
-bounds-s-at c = let start = c in omega (arith, start.requires, size_least start.args.edition)
+bounds-s-at c = let start = c in omega (arith, c.requires, size_least c.args.edition)
 
 pub returns-then-is_kept : goal.returns-then-is_kept
 unfolding channel_of
 returns-then-is_kept c =
-    let kept = c in
-    let unlike = kept in
-    let like = unlike in
-    at_locked _ _ _ _ _ _ like.if-source-channel.false _ like.edition_of-own.ensures _ c.answer-then-is_kept.ensures (sym like.is_alike.ensures ∙ unlike.if-not-is_alike.false) (sym c.if-is_kept.true ∙ kept.is_kept.ensures)
+    at_locked _ _ _ _ _ _ c.if-source-channel.false _ c.edition_of-own.ensures _ c.answer-then-is_kept.ensures (alike_told _ _ _ c.ne.ensures c.if-ne.false) (sym c.if-is_kept.true ∙ c.is_kept.ensures)
 
 pub first_out_held-k-requires : goal.first_out_held-k-requires
 first_out_held-k-requires c =
-    let many = c in
-    let a = many.args in
+    let a = c.args in
     omega (arith, held_spare a.edition, ap length c.bytes_of-b.ensures, laid_length a.new)
 
 pub returns-then-k-n : goal.returns-then-k-n
 unfolding channel_of
 returns-then-k-n c =
-    let bytes = c in
-    let many = bytes in
-    let kept = many in
-    let unlike = kept in
-    let like = unlike in
-    at_out _ _ _ _ _ _ like.if-source-channel.false _ like.edition_of-own.ensures (sym like.is_alike.ensures ∙ unlike.if-not-is_alike.false) (sym many.if-is_kept.false ∙ kept.is_kept.ensures) _ bytes.bytes_of-b.ensures _ many.held_of-n.ensures
-    _ (rw (← many.held_of-n.ensures) at c.first_out_held-k.ensures) _ c.answer-then-k-n.ensures c.if-k-n.true
+    at_out _ _ _ _ _ _ c.if-source-channel.false _ c.edition_of-own.ensures (alike_told _ _ _ c.ne.ensures c.if-ne.false) (sym c.if-is_kept.false ∙ c.is_kept.ensures) _ c.bytes_of-b.ensures _ c.held_of-n.ensures
+    _ (rw (← c.held_of-n.ensures) at c.first_out_held-k.ensures) _ c.answer-then-k-n.ensures c.if-k-n.true
 
 pub slice_bounds-b-end : goal.slice_bounds-b-end
 slice_bounds-b-end c =
-    let bytes = c in
-    let many = bytes in
-    let unlike = many in
-    let like = unlike in
-    let a = like.args in
-    held_within a.new a.edition _ _ bytes.bytes_of-b.ensures (own_edition a.edition like.edition_of-own.result a.new (sym like.is_alike.ensures ∙ unlike.if-not-is_alike.false) like.edition_of-own.ensures) many.held_of-n.ensures
+    let a = c.args in
+    held_within a.new a.edition _ _ c.bytes_of-b.ensures (own_edition a.edition c.edition_of-own.result a.new (alike_told _ _ _ c.ne.ensures c.if-ne.false) c.edition_of-own.ensures) c.held_of-n.ensures
 
 pub slice_bounds-put_held-end-2 : goal.slice_bounds-put_held-end-2
 slice_bounds-put_held-end-2 c =
-    let bytes = c in
-    let many = bytes in
-    let unlike = many in
-    let like = unlike in
-    let a = like.args in
-    held_cut a.new a.edition _ _ bytes.bytes_of-b.ensures (own_edition a.edition like.edition_of-own.result a.new (sym like.is_alike.ensures ∙ unlike.if-not-is_alike.false) like.edition_of-own.ensures) many.held_of-n.ensures
+    let a = c.args in
+    held_cut a.new a.edition _ _ c.bytes_of-b.ensures (own_edition a.edition c.edition_of-own.result a.new (alike_told _ _ _ c.ne.ensures c.if-ne.false) c.edition_of-own.ensures) c.held_of-n.ensures
 
 pub put_held-requires : goal.put_held-requires
 put_held-requires c =
-    let bytes = c in
-    let many = bytes in
-    let unlike = many in
-    let like = unlike in
-    let a = like.args in
-    (held_length a.new a.edition _ _ bytes.bytes_of-b.ensures (own_edition a.edition like.edition_of-own.result a.new (sym like.is_alike.ensures ∙ unlike.if-not-is_alike.false) like.edition_of-own.ensures) many.held_of-n.ensures, search rules)
+    let a = c.args in
+    (held_length a.new a.edition _ _ c.bytes_of-b.ensures (own_edition a.edition c.edition_of-own.result a.new (alike_told _ _ _ c.ne.ensures c.if-ne.false) c.edition_of-own.ensures) c.held_of-n.ensures, search rules)
 
 pub returns : goal.returns
 unfolding channel_of
 returns c =
-    let out = c in
-    let bytes = out in
-    let many = bytes in
-    let kept = many in
-    let unlike = kept in
-    let like = unlike in
-    let start = like in
-    at_put _ _ _ _ _ _ like.if-source-channel.false _ like.edition_of-own.ensures (sym like.is_alike.ensures ∙ unlike.if-not-is_alike.false) (sym many.if-is_kept.false ∙ kept.is_kept.ensures) _ bytes.bytes_of-b.ensures _ many.held_of-n.ensures
-    _ (rw (← many.held_of-n.ensures) at out.first_out_held-k.ensures) _ c.put_held.new.out c.answer-2.ensures c.if-k-n.false (omega (arith, start.requires)) c.put_held.ensures
+    at_put _ _ _ _ _ _ c.if-source-channel.false _ c.edition_of-own.ensures (alike_told _ _ _ c.ne.ensures c.if-ne.false) (sym c.if-is_kept.false ∙ c.is_kept.ensures) _ c.bytes_of-b.ensures _ c.held_of-n.ensures
+    _ (rw (← c.held_of-n.ensures) at c.first_out_held-k.ensures) _ c.put_held.new.out c.answer-2.ensures c.if-k-n.false (omega (arith, c.requires)) c.put_held.ensures

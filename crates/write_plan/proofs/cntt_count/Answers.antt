@@ -2,10 +2,10 @@ use mathlib.Core.Path.{sym, ap}
 use Rattle.layout.specs.Write.{cntt_count}
 use Rattle.write_plan.proofs.cntt_count.Goals as goal
 
-pub returns-in-Absent : goal.returns-in-Absent
+pub returns-in-None : goal.returns-in-None
 unfolding cntt_count
-returns-in-Absent c = sym (ap cntt_count c.in-Absent.is)
+returns-in-None c = sym (ap cntt_count c.in-None.is)
 
-pub returns-in-Value : goal.returns-in-Value
+pub returns-in-Some : goal.returns-in-Some
 unfolding cntt_count
-returns-in-Value c = sym (ap cntt_count c.in-Value.is)
+returns-in-Some c = sym (ap cntt_count c.in-Some.is)

@@ -1,22 +1,27 @@
--- The group, then its record, and the after body's run before either is told.
-use mathlib.Core.Path.{sym, ◌∙◌}
+-- The group, the after body's run, then the group's record.
+use mathlib.Core.Path.{sym, ap, ◌∙◌}
+use Rattle.std.specs.Prelude.{Ok}
 use Rattle.read_find.proofs.AskLaws.{group_there_is, there_within}
-use Rattle.ask_check.proofs.Finding.{before_refused, group_missing, group_found_lem}
+use Rattle.ask_check.specs.Both.{row_told}
+use Rattle.ask_check.proofs.Finding.{before_refused, after_refused, no_group_there, row_there_told}
 use Rattle.ask_check.proofs.both.find_in_both.Goals as goal
 
-pub find_in-found-requires : goal.find_in-found-requires
-find_in-found-requires c = (there_within _ _ _ (group_there_is _ _ _ _ (sym c.locate_group.ensures ∙ c.in-Found.is))).ctabs
+pub find_in-requires : goal.find_in-requires
+find_in-requires c = (there_within _ _ _ (group_there_is _ _ _ _ (sym c.in-Ok.ensures ∙ ap Ok c.in-Some.is))).ctabs
 
-pub returns-in-Refused : goal.returns-in-Refused
-returns-in-Refused c = before_refused _ _ _ _ _ _ (sym c.locate_group.ensures ∙ c.in-Refused.is)
+pub returns-in-Err : goal.returns-in-Err
+returns-in-Err c = before_refused _ _ _ _ _ _ (sym c.in-Err.ensures)
 
-pub returns-in-Missing : goal.returns-in-Missing
-returns-in-Missing c = c.unless_stopped.ensures ∙ group_missing _ _ _ _ (sym c.locate_group.ensures ∙ c.in-Missing.is)
+pub returns-in-Err-run_body : goal.returns-in-Err-run_body
+returns-in-Err-run_body c = after_refused _ _ _ _ _ (sym c.in-Ok.ensures) _ (sym c.in-Err-run_body.ensures)
 
-pub returns-in-Found : goal.returns-in-Found
-returns-in-Found c =
-    let t = c in
-    let f = t in
-    let a = f in
-    c.unless_stopped-in-Found.ensures
-    ∙ group_found_lem _ _ _ _ _ (group_there_is _ _ _ _ (sym a.locate_group.ensures ∙ a.in-Found.is)) _ _ t.row_told.ensures f.find_in-found.ensures
+pub returns-in_default : goal.returns-in_default
+returns-in_default c = no_group_there _ _ _ _ _ (sym c.in-Ok-run_body.ensures) (sym c.in-Ok.ensures ∙ ap Ok c.in_default.is)
+
+pub returns-in-Ok-find_in : goal.returns-in-Ok-find_in
+unfolding row_told
+returns-in-Ok-find_in c = row_there_told _ _ _ _ _ (sym c.in-Ok-run_body.ensures) _ (sym c.in-Ok.ensures ∙ ap Ok c.in-Some.is) _ c.in-Ok-find_in.ensures
+
+pub returns-in-Err-find_in : goal.returns-in-Err-find_in
+unfolding row_told
+returns-in-Err-find_in c = row_there_told _ _ _ _ _ (sym c.in-Ok-run_body.ensures) _ (sym c.in-Ok.ensures ∙ ap Ok c.in-Some.is) _ c.in-Err-find_in.ensures

@@ -1,5 +1,4 @@
 -- What is still to be looked at is the search from place i on; i goes up.
-use Prim.Native.Nat.{◌-◌}
 use mathlib.Core.Path.{sym, ap, ◌∙◌}
 use mathlib.Core.Bool.{not}
 use native.Mathlib.Omega.{arith}

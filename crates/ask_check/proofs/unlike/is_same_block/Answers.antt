@@ -1,5 +1,4 @@
 -- Where none of the bytes so far was found to differ they are the same; the number of those that do stays below the block's.
-use Prim.Native.Nat.{◌-◌}
 use mathlib.Core.Path.{◌≡◌}
 use native.Mathlib.Omega.{arith}
 use borrow.Author.Tests.{eqb-true}

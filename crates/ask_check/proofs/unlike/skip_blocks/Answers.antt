@@ -1,5 +1,4 @@
 -- The search from place i on is the whole: each block that was passed over is the same.
-use Prim.Native.Nat.{◌-◌}
 use mathlib.Core.Path.{refl, ◌∙◌}
 use native.Mathlib.Omega.{arith}
 use Rattle.ask_check.proofs.Comparing.{first_past}

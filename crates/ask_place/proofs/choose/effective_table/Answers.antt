@@ -1,13 +1,13 @@
 -- `effective` at the variant that the match found.
 use mathlib.Core.Path.{sym, ap}
-use Rattle.layout.specs.declared.record.SecondTable.{SecondTable}
+use Rattle.layout.specs.Records.{SecondTable}
 use Rattle.layout.specs.Place.{becomes, effective}
 use Rattle.ask_place.proofs.choose.effective_table.Goals as goal
 
-pub returns-in-Value : goal.returns-in-Value
+pub returns-in-Some : goal.returns-in-Some
 unfolding effective
-returns-in-Value c = sym (ap (λ (s : SecondTable). effective s c.args.table) c.in-Value.is)
+returns-in-Some c = sym (ap (λ (s : SecondTable). effective s c.args.table) c.in-Some.is)
 
-pub returns-in-Absent : goal.returns-in-Absent
+pub returns-in-None : goal.returns-in-None
 unfolding effective becomes
-returns-in-Absent c = sym (ap (λ (s : SecondTable). effective s c.args.table) c.in-Absent.is)
+returns-in-None c = sym (ap (λ (s : SecondTable). effective s c.args.table) c.in-None.is)

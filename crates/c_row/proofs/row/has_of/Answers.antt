@@ -3,10 +3,10 @@ use mathlib.Core.Path.{sym, ap}
 use Rattle.c_row.specs.Rows.{has_of}
 use Rattle.c_row.proofs.row.has_of.Goals as goal
 
-pub returns-in-Absent : goal.returns-in-Absent
+pub returns-in-None : goal.returns-in-None
 unfolding has_of
-returns-in-Absent c = sym (ap has_of c.in-Absent.is)
+returns-in-None c = sym (ap has_of c.in-None.is)
 
-pub returns-in-Value : goal.returns-in-Value
+pub returns-in-Some : goal.returns-in-Some
 unfolding has_of
-returns-in-Value c = sym (ap has_of c.in-Value.is)
+returns-in-Some c = sym (ap has_of c.in-Some.is)

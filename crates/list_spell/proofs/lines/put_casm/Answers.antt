@@ -10,11 +10,8 @@ use Rattle.list_spell.proofs.lines.put_casm.Goals as goal
 abbrev word : List ℕ
 word = 0x63 ∷ 0x61 ∷ 0x73 ∷ 0x6D ∷ []
 
-pub returns : goal.returns
+pub returns-clause-put : goal.returns-clause-put
 unfolding casm_line
-returns c =
+returns-clause-put c =
     let a = c.args in
-    record {
-      put = four_put a.out.now 0 word (spaced a.tag) (spaced a.size) newline _ _ _ _ _ _ _ _ (omega arith) (omega arith) (omega arith) c.put_bytes-named.ensures c.put_spaced-placed.ensures.put c.put_spaced-measured.ensures.put c.put_bytes.ensures;
-      upper_bound = omega arith;
-    }
+    four_put a.out.now 0 word (spaced a.tag) (spaced a.size) newline _ _ _ _ _ _ _ _ (omega arith) (omega arith) (omega arith) c.put_bytes-named.ensures c.put_spaced-placed.ensures.put c.put_spaced-measured.ensures.put c.put_bytes.ensures

@@ -1,20 +1,18 @@
--- After i turns the first i bytes stand at the place.
+-- The part behind the place holds the bytes, and what lies behind them is as it was.
+use Prim.Native.Nat.{◌+◌}
+use mathlib.Core.Path.{refl, ap₂}
+use mathlib.Core.List.{◌++◌}
 use native.Mathlib.Omega.{arith}
-use Rattle.list_spell.proofs.Putting.{stored_start, stored_length, stored_next, stored_end}
-use borrow.Author.Rules.{rules}
+use lib.ListN.{length, take}
+use borrow.Rule.Slice.PartMut.{Post-is}
+use Rattle.layout.specs.Edit.{replaced}
 use Rattle.list_spell.proofs.put.put_bytes.Goals as goal
 
-pub loop-i-init : goal.loop-i-init
-loop-i-init c = stored_start _ _ _
-
-pub bounds-out-at : goal.bounds-out-at
-bounds-out-at c = omega (arith, stored_length _ _ _ c.requires _ _ c.loop-i.invariant)
-
-pub loop-i-preserved : goal.loop-i-preserved
-loop-i-preserved c = stored_next _ _ _ c.requires _ _ c.loop-i.invariant (search rules)
-
-pub shape_of-out : goal.shape_of-out
-shape_of-out c = stored_length _ _ _ c.requires _ _ c.loop-i.invariant
-
 pub returns : goal.returns
-returns c = stored_end _ _ _ c.requires _ _ c.loop-i.invariant (omega arith)
+unfolding replaced
+returns c =
+    let a = c.args in
+    record {
+      place = refl;
+      buffer = ap₂ (λ x y. take a.at a.out.now ++ (x ++ y)) c.copy_from_slice.ensures.after (Post-is a.at (a.at + length a.b.now) a.out.now (omega arith));
+    }

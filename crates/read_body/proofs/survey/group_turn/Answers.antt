@@ -1,55 +1,38 @@
 -- The header, the count, the group and its edition in their order: one law for each way out.
-use mathlib.Core.Path.{refl, sym, ◌∙◌}
+use mathlib.Core.Path.{sym, ◌∙◌}
 use native.Mathlib.Omega.{arith}
+use Rattle.std.proofs.lemmas.Result.{err_from_is_err_and}
 use Rattle.read_body.proofs.EditionLaws.{unlike_body_lem}
 use Rattle.read_body.proofs.TurnLaws.{turned_end, turned_head, turned_many, turned_unsound, turned_unlike, turned_more, headed_there, place_within}
 use Rattle.read_body.proofs.survey.group_turn.Goals as goal
 
 pub returns-then-at-s : goal.returns-then-at-s
-returns-then-at-s c = turned_end _ _ _ c.requires.0 _ c.if-at-s.true c.ending.ensures
+returns-then-at-s c = turned_end _ _ _ c.requires.0 c.if-at-s.true
 
-pub returns-then-h-ne0 : goal.returns-then-h-ne0
-returns-then-h-ne0 c =
-    let f = c in
-    turned_head _ _ _ f.requires.0 _ f.if-at-s.false _ f.head_fault-h.ensures c.if-h-ne0.true c.ending-then-h-ne0.ensures
+pub returns-in_err-check_head : goal.returns-in_err-check_head
+returns-in_err-check_head c =
+    let p = err_from_is_err_and c.from_residual.result c.from_residual.ensures.1 in
+    rw (p.1, p.2) (turned_head _ _ _ c.requires.0 c.if-at-s.false _ (sym c.in_err-check_head.ensures))
 
 pub returns-then-n-ge-GROUPS : goal.returns-then-n-ge-GROUPS
-returns-then-n-ge-GROUPS c =
-    let f = c in
-    turned_many _ _ _ f.requires.0 _ f.if-at-s.false _ f.head_fault-h.ensures c.if-h-ne0.false (omega arith) c.ending-then-n-ge-GROUPS.ensures
+returns-then-n-ge-GROUPS c = turned_many _ _ _ c.requires.0 c.if-at-s.false _ (sym c.in_ok-check_head.ensures) (omega arith)
 
 pub judge_headed-requires : goal.judge_headed-requires
-judge_headed-requires c =
-    let f = c in
-    headed_there _ _ f.requires.1.0 _ f.head_fault-h.ensures c.if-h-ne0.false
+judge_headed-requires c = headed_there _ _ c.requires.1.0 _ (sym c.in_ok-check_head.ensures)
 
-pub returns-then-is_unlike : goal.returns-then-is_unlike
-returns-then-is_unlike c =
-    let u = c in
-    let j = u in
-    let f = j in
-    let a = f in
-    let is = sym j.judge_headed.ensures ∙ u.in-Sound.is in
-    turned_unlike _ _ _ a.requires.0 _ f.if-at-s.false _ f.head_fault-h.ensures j.if-h-ne0.false (omega arith) a.requires.1.0 _ _ _ _ is
-    (unlike_body_lem _ _ _ _ a.requires.1.1.1 _ _ ∙ (sym u.is_unlike.ensures ∙ c.if-is_unlike.true)) c.ending-then-is_unlike.ensures
+pub overflow_add-result : goal.overflow_add-result
+overflow_add-result c = omega (arith, place_within c.args.s.now c.args.at c.requires.1.0 _ (sym c.judge_headed.ensures ∙ c.in-Err.is))
 
-pub returns-in-Unsound : goal.returns-in-Unsound
-returns-in-Unsound c =
-    let j = c in
-    let f = j in
-    let a = f in
-    let is = sym j.judge_headed.ensures ∙ c.in-Unsound.is in
-    turned_unsound _ _ _ a.requires.0 _ f.if-at-s.false _ f.head_fault-h.ensures j.if-h-ne0.false (omega arith) a.requires.1.0 _ _ is c.ending-in-Unsound.ensures
+pub returns-in-Err : goal.returns-in-Err
+returns-in-Err c =
+    turned_unsound _ _ _ c.requires.0 c.if-at-s.false _ (sym c.in_ok-check_head.ensures) (omega arith) c.requires.1.0 _ (sym c.judge_headed.ensures ∙ c.in-Err.is)
 
-pub returns-else-is_unlike : goal.returns-else-is_unlike
-returns-else-is_unlike c =
-    let u = c in
-    let j = u in
-    let f = j in
-    let a = f in
-    let is = sym j.judge_headed.ensures ∙ u.in-Sound.is in
-    turned_more _ _ _ a.requires.0 _ f.if-at-s.false _ f.head_fault-h.ensures j.if-h-ne0.false (omega arith) a.requires.1.0 _ _ _ _ is
-    (unlike_body_lem _ _ _ _ a.requires.1.1.1 _ _ ∙ (sym u.is_unlike.ensures ∙ c.if-is_unlike.false)) refl refl refl refl
+pub returns-in-Ok : goal.returns-in-Ok
+returns-in-Ok c =
+    turned_unlike _ _ _ c.requires.0 c.if-at-s.false _ (sym c.in_ok-check_head.ensures) (omega arith) c.requires.1.0 _ (sym c.judge_headed.ensures ∙ c.in-Ok.is)
+    (unlike_body_lem _ _ _ c.requires.1.1.1 _ _ ∙ (sym c.is_unlike.ensures ∙ c.if-is_unlike.true))
 
-pub overflow_add-at : goal.overflow_add-at
-overflow_add-at c = omega (arith, place_within c.args.s.now c.args.at c.requires.1.0 _ _ (sym c.judge_headed.ensures ∙ c.in-Unsound.is))
+pub returns-in-Ok-2 : goal.returns-in-Ok-2
+returns-in-Ok-2 c =
+    turned_more _ _ _ c.requires.0 c.if-at-s.false _ (sym c.in_ok-check_head.ensures) (omega arith) c.requires.1.0 _ (sym c.judge_headed.ensures ∙ c.in-Ok.is)
+    (unlike_body_lem _ _ _ c.requires.1.1.1 _ _ ∙ (sym c.is_unlike.ensures ∙ c.if-is_unlike.false))

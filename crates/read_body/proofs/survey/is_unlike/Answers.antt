@@ -1,13 +1,16 @@
--- One law for each way out.
-use mathlib.Core.Path.{sym}
-use Rattle.read_body.proofs.EditionLaws.{unlike_none, unlike_unknown, unlike_by}
+-- Of a body whose edition is known a group with records is asked for its own.
+use mathlib.Core.Path.{sym, ap, ◌∙◌}
+use mathlib.Core.Bool.{not}
+use borrow.Author.Tests.{eq-eqb}
+use Rattle.read_record.proofs.Same.{edition_same}
+use Rattle.read_body.proofs.EditionLaws.{unlike_unknown, unlike_empty, unlike_by}
 use Rattle.read_body.proofs.survey.is_unlike.Goals as goal
 
-pub returns-then-records-eq0 : goal.returns-then-records-eq0
-returns-then-records-eq0 c = sym (unlike_none _ _ _ _ c.if-records-eq0.true)
+pub returns-in-None : goal.returns-in-None
+returns-in-None c = sym (unlike_unknown _ _ _ c.in-None.is)
 
-pub returns-then-not-known : goal.returns-then-not-known
-returns-then-not-known c = sym (unlike_unknown _ _ _ _ c.if-not-known.true)
+pub returns-then-group-ne0 : goal.returns-then-group-ne0
+returns-then-group-ne0 c = c.ne.ensures ∙ (ap not (edition_same _ _) ∙ sym (unlike_by _ _ _ _ c.in-Some.is c.if-group-ne0.true))
 
-pub returns : goal.returns
-returns c = unlike_by _ _ _ _ c.if-records-eq0.false c.if-not-known.false _ c.is_alike.ensures
+pub returns-else-group-ne0 : goal.returns-else-group-ne0
+returns-else-group-ne0 c = ap not (eq-eqb _ 0 c.if-group-ne0.false) ∙ sym (unlike_empty _ _ _ _ c.in-Some.is c.if-group-ne0.false)

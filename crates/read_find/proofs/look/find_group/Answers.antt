@@ -1,15 +1,12 @@
 -- The search for the group, told as an answer.
 use mathlib.Core.Path.{sym, ◌∙◌}
-use Rattle.read_find.proofs.ReadLaws.{group_no_lem, found_refused, found_missing, found_there}
+use Rattle.read_find.proofs.AskLaws.{told_found}
+use Rattle.read_find.proofs.ReadLaws.{group_no_lem, found_told, found_there}
 use Rattle.read_find.proofs.look.find_group.Goals as goal
 
-pub returns-in-Refused : goal.returns-in-Refused
-returns-in-Refused c =
-    rw c.no_standing.ensures (group_no_lem _ _ _ _ (found_refused _ _ _ _ (sym c.locate_group.ensures ∙ c.in-Refused.is)))
+pub returns-in-Err : goal.returns-in-Err
+returns-in-Err c =
+    rw c.no_standing.ensures (group_no_lem _ _ _ _ (found_told _ _ _ (sym c.asked_group.ensures ∙ c.in-Err.is)))
 
-pub returns-in-Missing : goal.returns-in-Missing
-returns-in-Missing c =
-    rw c.no_standing-in-Missing.ensures (group_no_lem _ _ _ _ (found_missing _ _ (sym c.locate_group.ensures ∙ c.in-Missing.is)))
-
-pub returns-in-Found : goal.returns-in-Found
-returns-in-Found c = found_there _ _ _ _ (sym c.locate_group.ensures ∙ c.in-Found.is)
+pub returns-in-Ok : goal.returns-in-Ok
+returns-in-Ok c = found_there _ _ _ _ (told_found _ _ _ (sym c.asked_group.ensures ∙ c.in-Ok.is))

@@ -1,4 +1,3 @@
-use Prim.Native.Nat.{◌-◌, ◌≤◌}
 use mathlib.Core.Path.{◌≡◌}
 use lib.Dec.{eqb}
 use Rattle.layout.specs.Scan.{first}
@@ -6,7 +5,4 @@ use Rattle.layout.specs.Group.{ctab_of, ctab_channel}
 use Rattle.read_find.proofs.row.find_row.Given as goal
 
 abbrev pub invariant-loop-i : goal.invariant-loop-i
-invariant-loop-i l = (l.i ≤ l.n) × (ctab_of l.edition l.s l.p l.n l.channel ≡ first (λ k. eqb (ctab_channel l.edition l.s l.p k) l.channel) l.i l.n)
-
-abbrev pub decreases-loop-i : goal.decreases-loop-i
-decreases-loop-i l = l.n - l.i
+invariant-loop-i l = ctab_of l.edition l.s l.p l.n l.channel ≡ first (λ k. eqb (ctab_channel l.edition l.s l.p k) l.channel) l.i l.n

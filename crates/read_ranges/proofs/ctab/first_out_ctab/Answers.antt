@@ -13,5 +13,4 @@ returns-then-a-lt13 c = from_here First _ _ _ 0 (from_start First _ _ _) _ 13 (o
 pub returns : goal.returns
 unfolding lows highs ruleds ranges common_ranges set_ranges
 returns c =
-    let past = c in
-    from_end First _ _ _ 13 (from_next First _ _ _ 0 (from_start First _ _ _) _ 13 (omega arith) (omega arith) past.first_out_part-a.ensures (omega arith)) _ c.first_out_part.ensures
+    from_end First _ _ _ 13 (from_next First _ _ _ 0 (from_start First _ _ _) _ 13 (omega arith) (omega arith) c.first_out_part-a.ensures (omega arith)) _ c.first_out_part.ensures

@@ -5,4 +5,4 @@ use Rattle.read_table.proofs.RecordLaws.{filled}
 use Rattle.read_table.proofs.filled.read_records.Given as goal
 
 abbrev pub invariant-loop-i : goal.invariant-loop-i
-invariant-loop-i l = l.table ≡ filled (planned_record l.s l.plan) l.i l.initial.table
+invariant-loop-i l = l.table ≡ filled (planned_record l.s l.reading) l.i l.initial.table

@@ -1,10 +1,9 @@
--- What falls is how much of the word is left.
-use lib.ListN.{length}
-use Prim.Native.Nat.{◌-◌, ◌+◌, ◌≤◌}
+-- The room is never fuller than it is large.
+use Prim.Native.Nat.{◌≤◌}
 use Rattle.script_words.proofs.bytes.take_bytes.Given as goal
 
-abbrev pub invariant-loop-at : goal.invariant-loop-at
-invariant-loop-at l = l.at ≤ length l.word + 1
-
-abbrev pub decreases-loop-at : goal.decreases-loop-at
-decreases-loop-at l = length l.word + 1 - l.at
+abbrev pub invariant-loop-part : goal.invariant-loop-part
+invariant-loop-part l =
+    (goal.iterator-loop-part).can_next l.part-iterator ×
+    (goal.iterator-loop-part).is_finite l.part-iterator ×
+    l.held ≤ 1048577

@@ -2,7 +2,7 @@
 use native.Mathlib.Omega.{arith}
 use Rattle.layout.proofs.Ctabs.{place_before}
 use Rattle.layout.specs.Write.{first_edition}
-use Rattle.write_chunks.proofs.Putting.{ctabs_start, ctabs_next, place_within, putting_end, ctabs}
+use Rattle.write_chunks.proofs.Putting.{ctabs_start, ctabs_next, putting_end, ctabs}
 use Rattle.write_table.proofs.lent.put_ctabs.Goals as goal
 
 pub loop-i-init : goal.loop-i-init

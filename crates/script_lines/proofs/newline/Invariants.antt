@@ -1,9 +1,0 @@
--- What falls is how much of the text is left.
-use Prim.Native.Nat.{◌-◌, ◌≤◌}
-use Rattle.script_lines.proofs.newline.Given as goal
-
-abbrev pub invariant-loop-i : goal.invariant-loop-i
-invariant-loop-i l = (l.from ≤ l.i) × (l.i ≤ l.to)
-
-abbrev pub decreases-loop-i : goal.decreases-loop-i
-decreases-loop-i l = l.to - l.i
