@@ -1,12 +1,28 @@
--- A tail that is lent on: what is lent, and what stands there when it is back.
-use Prim.Native.Nat.{ℕ, ◌+◌, ◌-◌, ◌≤◌}
-use mathlib.Core.Path.{◌≡◌, sym, ◌∙◌, ap}
-use mathlib.Core.List.{List, ◌++◌, append-nil}
+-- Bytes stored from a start on, and a tail that is lent on: what is lent, and what stands there when it is back.
+use Prim.Native.Nat.{ℕ, zero, suc, ◌+◌, ◌-◌, ◌≤◌, ◌<◌}
+use mathlib.Core.Path.{◌≡◌, refl, sym, ◌∙◌, ap}
+use mathlib.Core.List.{List, [], ◌∷◌, ◌++◌, append-nil}
 use native.Mathlib.Omega.{arith}
-use lib.ListN.{length, take, drop, length-drop, take-append-drop}
+use native.Mathlib.Nat.{not-suc-le-zero, le_of_suc-le-suc}
+use native.Mathlib.Numerals.{add-one}
+use lib.ListN.{length, get_or, set, take, drop, length-drop, take-append-drop}
 use lib.Seq.{take_all, take_at, drop_at, drop-length, drop-drop, length-take-le}
 use borrow.Rule.Slice.PartMut.{mid_of, put_mid, Post-is}
 use Rattle.layout.specs.Edit.{replaced}
+
+-- ---- bytes b stored one after the other over d
+
+fill_suc : (n : ℕ) (b d : List ℕ) → n < length b → n < length d → set (take n b ++ drop n d) n (get_or b n 0) ≡ take (suc n) b ++ drop (suc n) d
+fill_suc n [] d h l = absurd (not-suc-le-zero h)
+fill_suc n (y ∷ b) [] h l = absurd (not-suc-le-zero l)
+fill_suc zero (y ∷ b) (x ∷ d) h l = refl
+fill_suc (suc n) (y ∷ b) (x ∷ d) h l = ap (λ (t : List ℕ). y ∷ t) (fill_suc n b d (le_of_suc-le-suc h) (le_of_suc-le-suc l))
+
+pub fill_next : (n : ℕ) (b d : List ℕ) → n < length b → n < length d → set (take n b ++ drop n d) n (get_or b n 0) ≡ take (n + 1) b ++ drop (n + 1) d
+fill_next n b d h l = rw (add-one n) (fill_suc n b d h l)
+
+pub fill_end : (n : ℕ) (b d : List ℕ) → n ≤ length b → length b ≤ n → take n b ++ drop n d ≡ b ++ drop (length b) d
+fill_end n b d h l = let z : n ≡ length b = omega arith in rw (z, take_all (length b) b (omega arith))
 
 -- ---- the tail of xs from a on, where h stands before it
 

@@ -7,12 +7,14 @@ ghost use Rattle.layout.specs.Editions.{size, held, closing};
 use layout::edition::Edition;
 use layout::size::HELD;
 
-// These bytes.
+// These bytes, one after the other: `copy_from_slice` makes the archive for C ask for memcpy and memmove, which a handheld may not have.
 pub fn put_bytes(out: &mut [u8], b: &[u8])
     requires { length b.now ≤ length out.old }
     ensures { out.new ≡ b.now ++ drop (length b.now) out.old }
 {
-    out[..b.len()].copy_from_slice(b);
+    for i in 0..b.len() {
+        out[i] = b[i];
+    }
 }
 
 // A chunk's header: four tag bytes and a length, high byte first.
