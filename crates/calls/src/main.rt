@@ -3,19 +3,14 @@
 #![tactic(auto)]
 
 use calls_lines::answer_line;
-use script_lines::{Reader, Step};
+use script_lines::{Lines, Step};
 use script_text::print::Printed;
 use script_words::bytes;
 use script_words::bytes::Room;
 use std::io::Read;
 
 // A proved loop has to end, and nothing says that a script does. So the loop counts its turns, up to a number that no run reaches.
-fn answer_all<R: Read>(
-    reader: &mut Reader<R>,
-    room: &mut Room,
-    name: &mut Room,
-    out: &mut Printed,
-) {
+fn answer_all<R: Read>(reader: &mut Lines<R>, room: &mut Room, name: &mut Room, out: &mut Printed) {
     for _ in 0..u64::MAX {
         match reader.next() {
             Step::More => {},
@@ -29,7 +24,7 @@ fn answer_all<R: Read>(
 }
 
 fn main(rt: HostRuntime) {
-    let mut reader = Reader::new(rt.stdin());
+    let mut reader = Lines::new(rt.stdin());
     let mut room = bytes::room();
     let mut name = bytes::room();
     let mut out = Printed::new(rt.stdout());

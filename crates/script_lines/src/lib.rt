@@ -6,26 +6,32 @@ ghost use Rattle.std.specs.Prelude.{◌+◌, ◌≤◌, length};
 use std::io::Read;
 
 // The most characters that a line may have.
-const MOST: usize = 2200000;
+pub const MOST: usize = 2200000;
 
 // Room for the longest line and a block of 65,536 characters behind it.
-const TEXT: usize = 2265536;
+pub const TEXT: usize = 2265536;
 
-// text[from..to] is read and not answered, and has no newline before `seen`. No `BufRead`: it takes the heap, and a line of any length.
-#[derive(Drop)]
-pub struct Reader<R> {
-    input: R,
-    text: [u8; TEXT],
-    from: usize,
-    seen: usize,
-    to: usize,
+// text[from..to] is read and not answered, and has no newline before `seen`.
+#[derive(Clone, Copy)]
+pub struct Reader {
+    pub from: usize,
+    pub seen: usize,
+    pub to: usize,
     // Characters of this line were dropped: there were too many.
-    overlong: bool,
+    pub overlong: bool,
     // The input has no more.
-    ended: bool,
+    pub ended: bool,
     ghost first: { from ≤ seen },
     ghost then: { seen ≤ to },
     ghost last: { to ≤ 2265536 },
+}
+
+// The lines of an input, and how far they are read. No `BufRead`: it takes the heap, and a line of any length.
+#[derive(Drop)]
+pub struct Lines<R> {
+    input: R,
+    text: [u8; TEXT],
+    at: Reader,
 }
 
 // What a step found.
@@ -41,26 +47,28 @@ pub enum Step<'t> {
     Done,
 }
 
-impl<R: Read> Reader<R> {
-    pub fn new(input: R) -> Reader<R> {
-        Reader {
+impl<R: Read> Lines<R> {
+    pub fn new(input: R) -> Lines<R> {
+        Lines {
             input,
             text: [0; TEXT],
-            from: 0,
-            seen: 0,
-            to: 0,
-            overlong: false,
-            ended: false,
+            at: Reader {
+                from: 0,
+                seen: 0,
+                to: 0,
+                overlong: false,
+                ended: false,
+            },
         }
     }
 
     // The next line, or the next block where no line is whole.
     pub fn next(&mut self) -> Step<'_> {
-        let seen = self.seen;
-        let unseen = &self.text[seen..self.to];
+        let seen = self.at.seen;
+        let unseen = &self.text[seen..self.at.to];
         match unseen.iter().position(|b| *b == b'\n') {
             Some(count) => self.line_to(seen + count, seen + count + 1),
-            None if self.ended => self.last(),
+            None if self.at.ended => self.last(),
             None => {
                 self.read_block();
                 Step::More
@@ -70,15 +78,15 @@ impl<R: Read> Reader<R> {
 
     // The line that ends at `end`; what is read behind it begins at `behind`.
     fn line_to(&mut self, end: usize, behind: usize) -> Step<'_>
-        requires from { self.old.from ≤ end }
+        requires from { self.old.at.from ≤ end }
         requires order { end ≤ behind }
-        requires to { behind ≤ self.old.to }
+        requires to { behind ≤ self.old.at.to }
     {
-        let from = self.from;
-        let overlong = self.overlong || end - from > MOST;
-        self.from = behind;
-        self.seen = behind;
-        self.overlong = false;
+        let from = self.at.from;
+        let overlong = self.at.overlong || end - from > MOST;
+        self.at.seen = behind;
+        self.at.from = behind;
+        self.at.overlong = false;
         if overlong {
             return Step::Overlong;
         }
@@ -88,8 +96,8 @@ impl<R: Read> Reader<R> {
 
     // What is left where the input has ended: a last line, which needs no newline, or nothing.
     fn last(&mut self) -> Step<'_> {
-        let to = self.to;
-        if self.overlong || self.from < to {
+        let to = self.at.to;
+        if self.at.overlong || self.at.from < to {
             return self.line_to(to, to);
         }
         Step::Done
@@ -97,18 +105,18 @@ impl<R: Read> Reader<R> {
 
     // Reads a block. What is read of a line that is too long already is dropped; else it goes to the text's start, and a block has room behind it.
     fn read_block(&mut self) {
-        let mut held = self.to - self.from;
+        let mut held = self.at.to - self.at.from;
         if held > MOST {
             held = 0;
-            self.overlong = true;
+            self.at.overlong = true;
         } else {
-            self.text.copy_within(self.from..self.to, 0);
+            self.text.copy_within(self.at.from..self.at.to, 0);
         }
         // No characters come at the input's end, and where a read fails.
         let count = self.input.read(&mut self.text[held..]).unwrap_or(0);
-        self.from = 0;
-        self.seen = held;
-        self.to = held + count;
-        self.ended = count == 0;
+        self.at.from = 0;
+        self.at.seen = held;
+        self.at.to = held + count;
+        self.at.ended = count == 0;
     }
 }

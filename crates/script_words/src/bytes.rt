@@ -5,7 +5,7 @@ use crate::hex::{decode, is_hex};
 use crate::word::number;
 
 // The most bytes that BYTES may be, and all the room for them.
-const ROOM: usize = 1048577;
+pub const ROOM: usize = 1048577;
 
 pub type Room = [u8; ROOM];
 
@@ -38,11 +38,12 @@ fn put_part(part: &[u8], room: &mut Room, held: usize) -> Option<usize>
     ensures { IfSome result (λ end. end ≤ 1048577) }
 {
     let (pairs, often) = cut(part)?;
-    if pairs.is_empty() || pairs.len() % 2 != 0 || !is_hex(pairs) {
+    if pairs.is_empty() || pairs.len() % 2 != 0 {
         return None;
     }
     let Some(more) = often.checked_sub(1) else {
-        return Some(held);
+        // None of them is put, and they are pairs all the same.
+        return is_hex(pairs).then_some(held);
     };
     let count = pairs.len() / 2;
     let once = held + count;
