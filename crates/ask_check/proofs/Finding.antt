@@ -6,23 +6,32 @@ use Rattle.layout.specs.declared.turn.Refusal.{Refusal}
 use Rattle.read_find.specs.declared.Stands.{Stands}
 use mathlib.Core.List.{List}
 use Rattle.layout.specs.declared.answer.Standing.{Standing}
+use Rattle.layout.specs.declared.edition.Edition.{Edition}
 use Rattle.layout.specs.Scan.{Run}
 use Rattle.layout.specs.Scan.{Stopped, Ended}
 use Rattle.layout.specs.Answers.{granted}
 use Rattle.layout.specs.Body.{body_run}
 use Rattle.layout.specs.Asked.{of_channel, channel_found}
 use Rattle.read_find.specs.Find.{Refused, Missing}
-use Rattle.read_find.specs.Row.{Sought}
+use Rattle.read_find.specs.Row.{Sought, Refused as No, At as There-at}
 use Rattle.read_find.specs.Find.{group_located}
 use Rattle.read_find.specs.Row.{sought}
 use Rattle.read_find.proofs.AskLaws.{There, group_there_is, group_stopped, group_ended}
 use Rattle.read_find.proofs.RowLaws.{row_missing, row_found}
 use Rattle.ask_check.specs.Both.{Both}
-use Rattle.ask_check.specs.Both.{Before, After, Without}
+use Rattle.ask_check.specs.Both.{Before, After, Without, At}
 use Rattle.ask_check.specs.declared.both.NoRecord.TheVariants.{InAfter}
 use Rattle.ask_check.specs.Both.{row_told, unless_stopped, both_found}
 
 -- ---- the steps of the search
+
+pub told_without : (x : Sought) (number place : ℕ) → x ≡ No number place → Without number ≡ row_told x
+unfolding row_told
+told_without x number place h = rw (h, row_told)
+
+pub told_at_lem : (x : Sought) (e : Edition) (i at : ℕ) → x ≡ There-at e i at → At e at ≡ row_told x
+unfolding row_told
+told_at_lem x e i at h = rw (h, row_told)
 
 pub after_stopped : (r : Run) (found : Both) (number place : ℕ) → r ≡ Stopped number place → After number place ≡ unless_stopped r found
 unfolding unless_stopped

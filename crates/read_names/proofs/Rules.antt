@@ -7,7 +7,7 @@ use mathlib.Core.List.{List, [], ◌∷◌, ◌++◌, append-nil, append_assoc}
 use lib.Bits.{bit_or}
 use lib.Dec.{leb}
 use lib.ListN.{length, get_or, set, take, drop, drop_of_length-le}
-use lib.Seq.{take-suc-set}
+use lib.Seq.{slice, slice-cons, slice_empty, take-suc-set}
 use native.Mathlib.Numerals.{add-one}
 use borrow.Author.Tests.{le-leb, lt-leb}
 use Rattle.layout.specs.Lists.{has, distinct, every}
@@ -49,22 +49,42 @@ module _ (t : List ℕ) (k : ℕ) where
   unfolding every
   plain_end h = rw (drop_of_length-le t h)
 
+-- ---- the names that end at the bytes of a list, from number k up to m
+
+module _ (es : List ℕ) (i k m e : ℕ) (h : k < m) (l : m ≤ length es) (q : e ≡ get_or es k 0) where
+  ends_next : slice k m es ≡ e ∷ slice (k + 1) m es
+  ends_next = rw (q, add-one k) (slice-cons k m es 0 h l)
+
+  pub cuts_next : (t : List ℕ) → cuts t i (slice k m es) ≡ part t i e ∷ cuts t (e + 1) (slice (k + 1) m es)
+  unfolding cuts
+  cuts_next t = rw (ends_next, cuts)
+
+  pub placed_next : (n : ℕ) → Placed n i (slice k m es) → (i ≤ e) × ((e ≤ n) × Placed n (e + 1) (slice (k + 1) m es))
+  placed_next n p = go (rw ends_next at p)
+    where
+      go : Placed n i (e ∷ slice (k + 1) m es) → (i ≤ e) × ((e ≤ n) × Placed n (e + 1) (slice (k + 1) m es))
+      go (more a b r) = (a, (b, r))
+
+pub cuts_end : (t es : List ℕ) (i k m : ℕ) → k ≡ m → cuts t i (slice k m es) ≡ []
+unfolding cuts
+cuts_end t es i k m h = rw (h, slice_empty m es)
+
 -- ---- the names that end at the bytes of a list, from number k on
 
 module _ (es : List ℕ) (i k e : ℕ) (h : k < length es) (q : e ≡ get_or es k 0) where
-  pub cuts_next : (t : List ℕ) → cuts t i (drop k es) ≡ part t i e ∷ cuts t (e + 1) (drop (k + 1) es)
+  pub cuts_rest : (t : List ℕ) → cuts t i (drop k es) ≡ part t i e ∷ cuts t (e + 1) (drop (k + 1) es)
   unfolding cuts
-  cuts_next t = rw (q, drop_more es k h, cuts)
+  cuts_rest t = rw (q, drop_more es k h, cuts)
 
-  pub placed_next : (n : ℕ) → Placed n i (drop k es) → (i ≤ e) × ((e ≤ n) × Placed n (e + 1) (drop (k + 1) es))
-  placed_next n p = go (rw (drop_more es k h, ← q) at p)
+  pub placed_rest : (n : ℕ) → Placed n i (drop k es) → (i ≤ e) × ((e ≤ n) × Placed n (e + 1) (drop (k + 1) es))
+  placed_rest n p = go (rw (drop_more es k h, ← q) at p)
     where
       go : Placed n i (e ∷ drop (k + 1) es) → (i ≤ e) × ((e ≤ n) × Placed n (e + 1) (drop (k + 1) es))
       go (more a b r) = (a, (b, r))
 
-pub cuts_end : (t es : List ℕ) (i k : ℕ) → length es ≤ k → cuts t i (drop k es) ≡ []
+pub cuts_over : (t es : List ℕ) (i k : ℕ) → length es ≤ k → cuts t i (drop k es) ≡ []
 unfolding cuts
-cuts_end t es i k h = rw (drop_of_length-le es h)
+cuts_over t es i k h = rw (drop_of_length-le es h)
 
 pub ends_grow : (es : List ℕ) (m e : ℕ) → m < length es → take (m + 1) (set es m e) ≡ take m es ++ (e ∷ [])
 ends_grow es m e h = rw (add-one m) (take-suc-set es m e h)

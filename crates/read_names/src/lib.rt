@@ -4,10 +4,23 @@
 ghost use Rattle.std.specs.Prelude.{◌≡◌, false, ◌^◌, ◌<◌, ◌≤◌, length, take};
 ghost use Rattle.layout.specs.Lists.{same, has};
 ghost use Rattle.layout.specs.Sdec.{names, sound_text};
-ghost use Rattle.read_names.specs.Parts.{part, Checked, cuts, Placed};
+ghost use Rattle.read_names.specs.Parts.{part, Ends, Checked, cuts, Placed};
 ghost use Rattle.read_names.specs.Marks.{mark, spread, sign};
 
 use layout::limit::{NAME, TEXT};
+
+// Where the name that starts at `i` ends: at the next comma, or at the text's end.
+pub fn name_end(t: &[u8], i: usize) -> usize
+    requires { i ≤ length t.now }
+    ensures { Ends t.now i result }
+{
+    for k in i..t.len() {
+        if t[k] == b',' {
+            return k;
+        }
+    }
+    t.len()
+}
 
 // Where the name that starts at `i` ends: at the next comma, or at the text's end; none where one of its bytes is not 20H to 7EH.
 fn checked_end(t: &[u8], i: usize) -> Option<usize>

@@ -15,7 +15,7 @@ use Rattle.layout.specs.Answers.{refused, granted, after_run}
 use Rattle.layout.specs.Style.{no_style, section_tagged, sections_run, casm_among, casm_found}
 use Rattle.layout.proofs.Scans.{first_end, first_kept, first_grown, first_within}
 use Rattle.layout.proofs.Same.{same_is}
-use Rattle.read_style.specs.Walk.{Fit, Walked, CasmAt, SectionsEnded, SectionsRead}
+use Rattle.read_style.specs.Walk.{Fit, Walked, CasmAt, SectionsRead}
 use Rattle.read_style.proofs.SectionLaws.{has_tag, SectionMore}
 
 -- ---- the place of the CASM tag
@@ -96,19 +96,19 @@ module _ (s : List ℕ) where
       unfolding casm_found after_run
       sections_stopped why e = rw (le-ltb 1048576 (length s) l, style, e)
 
-      module _ (casm : Option ℕ) (known : SectionsEnded s casm) where
-        sections_ended : casm_found s ≡ casm_among s known.n
+      module _ (n : ℕ) (casm : Option ℕ) (e : sections_run s ≡ Ended n) (known : CasmAt s n casm) where
+        sections_ended : casm_found s ≡ casm_among s n
         unfolding casm_found after_run
-        sections_ended = rw (le-ltb 1048576 (length s) l, style, known.run)
+        sections_ended = rw (le-ltb 1048576 (length s) l, style, e)
 
         pub casm_none : casm ≡ None → casm_found s ≡ refused 5 (length s)
         unfolding casm_among
-        casm_none h = sections_ended ∙ rw (le-leb known.n (section_tagged s known.n CASM) (omega (arith, known.stands.none h)))
+        casm_none h = sections_ended ∙ rw (le-leb n (section_tagged s n CASM) (omega (arith, known.none h)))
 
         module _ (at : ℕ) (is : casm ≡ Some at) (size : ℕ) (f : size ≡ word s (at + 4)) where
-          among : casm_among s known.n ≡ cond (ltb 32768 size) (refused 3 at) (granted (record { start = at; size = size }))
+          among : casm_among s n ≡ cond (ltb 32768 size) (refused 3 at) (granted (record { start = at; size = size }))
           unfolding casm_among
-          among = let k = known.stands.some at is in rw (lt-leb known.n (section_tagged s known.n CASM) k.0, ← k.1, ← f)
+          among = let k = known.some at is in rw (lt-leb n (section_tagged s n CASM) k.0, ← k.1, ← f)
 
           pub casm_over : 32768 < size → casm_found s ≡ refused 3 at
           casm_over h = sections_ended ∙ among ∙ rw (lt-ltb 32768 size h)
@@ -117,5 +117,5 @@ module _ (s : List ℕ) where
           casm_found_lem h = sections_ended ∙ among ∙ rw (le-ltb 32768 size h)
 
 -- a section that has a tag stands within the file
-pub casm_fits : (s : List ℕ) (casm : Option ℕ) (at : ℕ) → SectionsEnded s casm → casm ≡ Some at → at + 8 ≤ length s
-casm_fits s casm at known is = let k = known.stands.some at is in omega (arith, known.fit.fits (section_tagged s known.n CASM) k.0, k.1)
+pub casm_fits : (s : List ℕ) (n : ℕ) (casm : Option ℕ) (at : ℕ) → Fit s n → CasmAt s n casm → casm ≡ Some at → at + 8 ≤ length s
+casm_fits s n casm at f known is = let k = known.some at is in omega (arith, f.fits (section_tagged s n CASM) k.0, k.1)

@@ -27,20 +27,23 @@ returns-in_err-casm c =
 pub returns-in_default : goal.returns-in_default
 unfolding told_section
 returns-in_default c =
-    sym (casm_none _ (omega arith) (sym c.is_no_style.ensures ∙ c.if-is_no_style.false) _ (c.in_ok-casm.ensures.ended _ refl) (none_of _ c.in_default.not-Some))
+    let k = c.in_ok-casm.ensures.ended _ refl in
+    sym (casm_none _ (omega arith) (sym c.is_no_style.ensures ∙ c.if-is_no_style.false) k.n _ k.run k.stands (none_of _ c.in_default.not-Some))
 
 pub overflow_add-casm : goal.overflow_add-casm
-overflow_add-casm c = omega (arith, casm_fits _ _ _ (c.in_ok-casm.ensures.ended _ refl) c.in-Some.is)
+overflow_add-casm c = let k = c.in_ok-casm.ensures.ended _ refl in omega (arith, casm_fits _ k.n _ _ k.fit k.stands c.in-Some.is)
 
 pub word_at-length-requires : goal.word_at-length-requires
-word_at-length-requires c = omega (arith, casm_fits _ _ _ (c.in_ok-casm.ensures.ended _ refl) c.in-Some.is)
+word_at-length-requires c = let k = c.in_ok-casm.ensures.ended _ refl in omega (arith, casm_fits _ k.n _ _ k.fit k.stands c.in-Some.is)
 
 pub returns-then-length-gt-BODY : goal.returns-then-length-gt-BODY
 unfolding told_section
 returns-then-length-gt-BODY c =
-    sym (casm_over _ (omega arith) (sym c.is_no_style.ensures ∙ c.if-is_no_style.false) _ (c.in_ok-casm.ensures.ended _ refl) _ c.in-Some.is _ c.word_at-length.ensures.0 (omega arith))
+    let k = c.in_ok-casm.ensures.ended _ refl in
+    sym (casm_over _ (omega arith) (sym c.is_no_style.ensures ∙ c.if-is_no_style.false) k.n _ k.run k.stands _ c.in-Some.is _ c.word_at-length.ensures.0 (omega arith))
 
 pub returns : goal.returns
 unfolding told_section
 returns c =
-    sym (casm_found_lem _ (omega arith) (sym c.is_no_style.ensures ∙ c.if-is_no_style.false) _ (c.in_ok-casm.ensures.ended _ refl) _ c.in-Some.is _ c.word_at-length.ensures.0 (omega arith))
+    let k = c.in_ok-casm.ensures.ended _ refl in
+    sym (casm_found_lem _ (omega arith) (sym c.is_no_style.ensures ∙ c.if-is_no_style.false) k.n _ k.run k.stands _ c.in-Some.is _ c.word_at-length.ensures.0 (omega arith))
