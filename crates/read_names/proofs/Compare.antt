@@ -1,10 +1,10 @@
 -- Two names are the same where they are as long and no byte differs. A list that begins with y answers for y, then for the rest.
-use Prim.Native.Nat.{ℕ, ◌<◌}
+use Prim.Native.Nat.{ℕ, suc, ◌+◌, ◌≤◌, ◌<◌}
 use mathlib.Core.Path.{◌≡◌, refl, sym, ap, ap₂, ◌∙◌}
 use mathlib.Core.Bool.{Bool, true, false, cond, not, ◌&&◌, ◌||◌, and-false, or-true, or_assoc, and_assoc, false≢true}
 use mathlib.Core.List.{List, [], ◌∷◌, ◌++◌}
 use lib.Dec.{eqb}
-use lib.ListN.{length}
+use lib.ListN.{length, get_or, drop, drop_of_length-le}
 use borrow.Author.Tests.{eq-eqb, ne_eqb, eqb-true, eqb-false}
 use Rattle.std.specs.Bool.{MatchBool}
 use Rattle.std.specs.Cmp.Lexicographic.{pointwise}
@@ -13,6 +13,7 @@ use Rattle.std.proofs.lemmas.List.Elements.{All-from_all_within}
 use Rattle.std.proofs.lemmas.List.Folds.{list_any_at, list_any_none}
 use Rattle.layout.specs.Sdec.{names, first_name, later_names}
 use Rattle.layout.specs.Lists.{same, has, distinct, every}
+use Rattle.read_names.proofs.Cuts.{drop_more}
 
 -- ---- two names
 
@@ -37,6 +38,23 @@ same_comm [] [] = refl
 same_comm [] (y ∷ ys) = refl
 same_comm (x ∷ xs) [] = refl
 same_comm (x ∷ xs) (y ∷ ys) = rw (eqb_comm x y, same_comm xs ys)
+
+pub same_sizes : (xs ys : List ℕ) → (length xs ≡ length ys → ⊥) → same xs ys ≡ false
+unfolding same
+same_sizes [] [] h = absurd (h refl)
+same_sizes [] (y ∷ ys) h = refl
+same_sizes (x ∷ xs) [] h = refl
+same_sizes (x ∷ xs) (y ∷ ys) h = rw (same_sizes xs ys (λ e. h (ap suc e))) (and-false (eqb x y))
+
+-- two names of which k bytes were compared
+module _ (xs ys : List ℕ) (k : ℕ) where
+  pub same_next : (r : Bool) → k < length xs → k < length ys → eqb (get_or xs k 0) (get_or ys k 0) ≡ r → same (drop k xs) (drop k ys) ≡ r && same (drop (k + 1) xs) (drop (k + 1) ys)
+  unfolding same
+  same_next r h l q = rw (drop_more xs k h, drop_more ys k l, q)
+
+  pub same_over : length xs ≤ k → length ys ≤ k → same (drop k xs) (drop k ys) ≡ true
+  unfolding same
+  same_over h l = rw (drop_of_length-le xs h, drop_of_length-le ys l)
 
 -- ---- the names of a text, as `split` cuts it
 

@@ -2,20 +2,20 @@
 use native.Mathlib.Omega.{arith}
 use mathlib.Core.Path.{sym, ◌∙◌}
 use mathlib.Core.Bool.{true, false}
-use Rattle.read_names.proofs.Compare.{same_eq, has_cut, has_none}
+use Rattle.read_names.proofs.Compare.{has_cut, has_none}
 use Rattle.read_names.proofs.Rules.{cuts_rest, placed_rest, cuts_over}
 use Rattle.read_names.proofs.is_again.Goals as goal
 
-pub returns-then-eq : goal.returns-then-eq
-returns-then-eq c =
+pub returns-then-is_name : goal.returns-then-is_name
+returns-then-is_name c =
     let l = c.loop-e in
-    sym (l.invariant.1 ∙ has_cut _ _ _ (cuts_rest _ l.i l.e-index c.from-e.result (omega arith) c.from-e.ensures _) true _ (sym c.if-eq.true ∙ (c.eq.ensures ∙ same_eq _ _)))
+    sym (l.invariant.1 ∙ has_cut _ _ _ (cuts_rest _ l.i l.e-index c.from-e.result (omega arith) c.from-e.ensures _) true _ (sym c.if-is_name.true ∙ c.is_name.ensures))
 
 pub loop-e-preserved : goal.loop-e-preserved
 loop-e-preserved c =
     let l = c.loop-e in
     let p = placed_rest _ l.i l.e-index c.from-e.result (omega arith) c.from-e.ensures _ l.invariant.0 in
-    (p.1.1, l.invariant.1 ∙ has_cut _ _ _ (cuts_rest _ l.i l.e-index c.from-e.result (omega arith) c.from-e.ensures _) false _ (sym c.if-eq.false ∙ (c.eq.ensures ∙ same_eq _ _)))
+    (p.1.1, l.invariant.1 ∙ has_cut _ _ _ (cuts_rest _ l.i l.e-index c.from-e.result (omega arith) c.from-e.ensures _) false _ (sym c.if-is_name.false ∙ c.is_name.ensures))
 
 pub returns : goal.returns
 returns c =
